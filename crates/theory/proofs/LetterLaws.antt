@@ -1,0 +1,42 @@
+-- Laws of letters and bytes: `letter` undoes `byte`, and `byte` undoes `letter` on the five letters.
+--
+--   View b, view b    what a byte is: one of the five codes, or no letter
+use mathlib.Core.Bool.{Bool, false, true}
+use mathlib.Core.Path.{_∙_, _≡_, ap, refl, sym}
+use Prim.Native.Nat.{ℕ}
+use lib.Dec.{eqb}
+use borrow.Author.Tests.{eq-eqb, eqb-true}
+use Rattle.theory.specs.Letter.{byte, isLetter, letter}
+use Rattle.theory.specs.declared.Letter.{Letter}
+use Rattle.theory.specs.declared.Letter.the-variants.{C, E, L, R, S}
+
+pub letter-byte : (a : Letter) → letter (byte a) ≡ a
+unfolding letter
+letter-byte C = refl
+letter-byte L = refl
+letter-byte E = refl
+letter-byte R = refl
+letter-byte S = refl
+
+pub byte-letter : (b : ℕ) → isLetter b ≡ true → byte (letter b) ≡ b
+unfolding isLetter
+byte-letter b h = eqb-true (byte (letter b)) b h
+
+pub byte-is-letter : (a : Letter) → isLetter (byte a) ≡ true
+unfolding isLetter
+byte-is-letter a = eq-eqb (byte (letter (byte a))) (byte a) (ap byte (letter-byte a))
+
+pub byte-injective : (a b : Letter) → byte a ≡ byte b → a ≡ b
+byte-injective a b e = sym (letter-byte a) ∙ ap letter e ∙ letter-byte b
+
+pub data View (b : ℕ) : Type 0 where
+  is : (a : Letter) → b ≡ byte a → letter b ≡ a → View b
+  none : isLetter b ≡ false → View b
+
+pub view : (b : ℕ) → View b
+unfolding isLetter
+view b = go (isLetter b) refl
+  where
+    go : (x : Bool) → eqb (byte (letter b)) b ≡ x → View b
+    go true h = is (letter b) (sym (eqb-true (byte (letter b)) b h)) refl
+    go false h = none h
