@@ -14,4 +14,14 @@ pub mod Chain
 pub mod JoinLaws
 pub mod Rows
 pub mod TableRows
+pub mod SphereLaws
+pub mod Runs
+pub mod Live
+pub mod Index
+pub mod Ring
+pub mod Whole
+pub mod Phi
+pub mod Count
+pub mod Times
+pub mod Tight
 pub mod Marked

@@ -1,9 +1,11 @@
--- Laws of tests: a test is true or false and not both, and what a conjunction or a negation says.
-use mathlib.Core.Bool.{Bool, _&&_, cond, false, not, true}
+-- Laws of tests: a test is true or false and not both, and what a conjunction, a disjunction or a negation says.
+use mathlib.Core.Bool.{Bool, _&&_, _||_, cond, false, not, true}
 use mathlib.Core.Logic.{_⊎_, inl, inr}
 use mathlib.Core.Path.{_∙_, _≡_, ap, refl, sym}
 use Prim.Native.Nat.{ℕ}
 use native.Mathlib.Omega.{arith}
+use lib.Dec.{eqb}
+use borrow.Author.Tests.{eq-eqb}
 
 pub not-both : (b : Bool) → b ≡ true → b ≡ false → ⊥
 not-both b p q = let e : true ≡ false = sym p ∙ q in let z : _≡_ {A = ℕ} 1 0 = ap (λ (x : Bool). cond x 1 0) e in omega arith
@@ -36,3 +38,24 @@ not-is-true false e = refl
 pub not-is-false : (b : Bool) → not b ≡ false → b ≡ true
 not-is-false true e = refl
 not-is-false false e = sym e
+
+pub or-right : (a b : Bool) → b ≡ true → (a || b) ≡ true
+or-right true b h = refl
+or-right false b h = h
+
+pub or-cases : (a b : Bool) → (a || b) ≡ true → (a ≡ true) ⊎ (b ≡ true)
+or-cases true b h = inl refl
+or-cases false b h = inr h
+
+pub or-no : (a b : Bool) → (a || b) ≡ false → (a ≡ false) × (b ≡ false)
+or-no true b h = absurd (not-both true refl h)
+or-no false b h = (refl, h)
+
+pub or-three : (a b d f : Bool) → (a || (b || f)) ≡ true → (a || (b || (d || f))) ≡ true
+or-three true b d f h = refl
+or-three false true d f h = refl
+or-three false false true f h = refl
+or-three false false false f h = h
+
+pub eqb-same : (x : ℕ) → eqb x x ≡ true
+eqb-same x = eq-eqb x x refl
