@@ -24,4 +24,7 @@ pub mod Phi
 pub mod Count
 pub mod Times
 pub mod Tight
+pub mod Linked
+pub mod Out
+pub mod Match
 pub mod Marked

@@ -9,7 +9,7 @@ use Rattle.theory.proofs.CornerLaws.{next-previous, previous-low, trian
 use Rattle.theory.proofs.Count.{upAt, ups}
 use Rattle.theory.proofs.Counting.{bit-off, bit-one, count, count-append, tris, tris-in}
 use Rattle.theory.proofs.Index.{Earlier, Side}
-use Rattle.theory.proofs.Phi.{mate, mate-at, mate-low, phi, phi-mate, phi-tri, phi0, phi1, phi2, time-inj}
+use Rattle.theory.proofs.Phi.{carry, carry-left, carry-mate, carry-right, carry-tip, carry-triangle, mate, mate-at, mate-low, time-inj}
 use Rattle.theory.proofs.Ring.{fresh}
 use Rattle.theory.proofs.SphereLaws.{self}
 use Rattle.theory.proofs.Whole.{Walked}
@@ -65,16 +65,16 @@ module _ {lab opp : ℕ → ℕ} {t v g : ℕ} {mesh : Sphere lab opp t v g} {sp
   abbrev Bef : ℕ → ℕ → Type 0
   Bef = Earlier mesh sp co
 
-  earlier-mate : (n x : ℕ) → Bef n (opp (phi co x)) → triangle (mt x) < n
+  earlier-mate : (n x : ℕ) → Bef n (opp (carry co x)) → triangle (mt x) < n
   earlier-mate n x (j, h, q) =
-      let a = time-inj w (triangle (mt x)) j (sym (phi-tri co (mt x)) ∙ ap triangle (phi-mate w x) ∙ q) in
+      let a = time-inj w (triangle (mt x)) j (sym (carry-triangle co (mt x)) ∙ ap triangle (carry-mate w x) ∙ q) in
       omega arith
 
-  later-mate : (n x : ℕ) → (Bef n (opp (phi co x)) → ⊥) → n ≤ triangle (mt x)
+  later-mate : (n x : ℕ) → (Bef n (opp (carry co x)) → ⊥) → n ≤ triangle (mt x)
   later-mate n x h = go (decLt (triangle (mt x)) n)
     where
       go : Dec (triangle (mt x) < n) → n ≤ triangle (mt x)
-      go (yes l) = absurd (h (triangle (mt x), l, ap triangle (sym (phi-mate w x)) ∙ phi-tri co (mt x)))
+      go (yes l) = absurd (h (triangle (mt x), l, ap triangle (sym (carry-mate w x)) ∙ carry-triangle co (mt x)))
       go (no l) = omega arith
 
   -- the letter's facts at step k
@@ -83,7 +83,7 @@ module _ {lab opp : ℕ → ℕ} {t v g : ℕ} {mesh : Sphere lab opp t v g} {sp
 
   -- the step after an up right side
   pub up-right : (k : ℕ) → k < t → UpR (sp k) → (suc k < t) × (mt (3 * k + 1) ≡ 3 * suc k)
-  up-right k h u = let z = go (sp k) (w .facts k h .1) u in (z .0, mate-at w (3 * k + 1) (3 * suc k) (ap opp (phi1 co k) ∙ sym (z .1) ∙ sym (phi0 co (suc k))))
+  up-right k h u = let z = go (sp k) (w .facts k h .1) u in (z .0, mate-at w (3 * k + 1) (3 * suc k) (ap opp (carry-left co k) ∙ sym (z .1) ∙ sym (carry-tip co (suc k))))
     where
       go : (a : Letter) → Side mesh sp co t k a → UpR a → (suc k < t) × (co (suc k) ≡ opp (next (co k)))
       go C s u = (s .1, s .2)
@@ -93,14 +93,14 @@ module _ {lab opp : ℕ → ℕ} {t v g : ℕ} {mesh : Sphere lab opp t v g} {sp
       go S s u = (s .2, s .3)
 
   pub up-left : (k : ℕ) → k < t → sp k ≡ R → (suc k < t) × (mt (3 * k + 2) ≡ 3 * suc k)
-  up-left k h q = let z = side-at k R h q in (z .2, mate-at w (3 * k + 2) (3 * suc k) (ap opp (phi2 co k) ∙ sym (z .3) ∙ sym (phi0 co (suc k))))
+  up-left k h q = let z = side-at k R h q in (z .2, mate-at w (3 * k + 2) (3 * suc k) (ap opp (carry-right co k) ∙ sym (z .3) ∙ sym (carry-tip co (suc k))))
 
   later-S : (k : ℕ) → k < t → sp k ≡ S → k < triangle (mt (3 * k + 2))
-  later-S k h q = let a = later-mate (suc k) (3 * k + 2) (λ b. side-at k S h q .1 (rw (phi2 co k) at b)) in omega arith
+  later-S k h q = let a = later-mate (suc k) (3 * k + 2) (λ b. side-at k S h q .1 (rw (carry-right co k) at b)) in omega arith
 
   -- the left neighbour of a C holds its tip
   later-C : (k : ℕ) → k < t → sp k ≡ C → k < triangle (mt (3 * k + 2))
-  later-C k h q = let a = later-mate (suc k) (3 * k + 2) (λ b. bad (rw (phi2 co k) at b)) in omega arith
+  later-C k h q = let a = later-mate (suc k) (3 * k + 2) (λ b. bad (rw (carry-right co k) at b)) in omega arith
     where
       bad : Bef (suc k) (opp (previous (co k))) → ⊥
       bad (j, l, e) = go (decLt j k)
@@ -114,16 +114,16 @@ module _ {lab opp : ℕ → ℕ} {t v g : ℕ} {mesh : Sphere lab opp t v g} {sp
   later-0 : 0 < t → 0 < triangle (mt 0)
   later-0 h = let a = later-mate 1 0 bad in omega arith
     where
-      bad : Bef 1 (opp (phi co 0)) → ⊥
+      bad : Bef 1 (opp (carry co 0)) → ⊥
       bad (j, l, e) =
           let z : j ≡ 0 = omega arith in
-          self mesh (co 0) (w .facts 0 h .0 .0) (ap (λ (i : ℕ). triangle (opp i)) (sym (phi0 co 0)) ∙ e ∙ ap (λ (i : ℕ). triangle (co i)) z)
+          self mesh (co 0) (w .facts 0 h .0 .0) (ap (λ (i : ℕ). triangle (opp i)) (sym (carry-tip co 0)) ∙ e ∙ ap (λ (i : ℕ). triangle (co i)) z)
 
   pub bottom : (k : ℕ) → 0 < k → k < t → triangle (mt (3 * k)) < k
-  bottom k p h = earlier-mate k (3 * k) (rw (phi0 co k) (w .facts k h .0 .2 p))
+  bottom k p h = earlier-mate k (3 * k) (rw (carry-tip co k) (w .facts k h .0 .2 p))
 
   pub down-right : (k : ℕ) → k < t → (UpR (sp k) → ⊥) → triangle (mt (3 * k + 1)) < k
-  down-right k h n = earlier-mate k (3 * k + 1) (rw (phi1 co k) (go (sp k) (w .facts k h .1) n))
+  down-right k h n = earlier-mate k (3 * k + 1) (rw (carry-left co k) (go (sp k) (w .facts k h .1) n))
     where
       go : (a : Letter) → Side mesh sp co t k a → (UpR a → ⊥) → Bef k (opp (next (co k)))
       go C s n = absurd (n tt)
@@ -133,7 +133,7 @@ module _ {lab opp : ℕ → ℕ} {t v g : ℕ} {mesh : Sphere lab opp t v g} {sp
       go S s n = absurd (n tt)
 
   pub down-left : (k : ℕ) → k < t → (UpL (sp k) → ⊥) → triangle (mt (3 * k + 2)) < k
-  down-left k h n = earlier-mate k (3 * k + 2) (rw (phi2 co k) (go (sp k) (w .facts k h .1) n))
+  down-left k h n = earlier-mate k (3 * k + 2) (rw (carry-right co k) (go (sp k) (w .facts k h .1) n))
     where
       go : (a : Letter) → Side mesh sp co t k a → (UpL a → ⊥) → Bef k (opp (previous (co k)))
       go C s n = absurd (n tt)

@@ -1,0 +1,104 @@
+-- Linked.
+use mathlib.Core.List.{List, [], _++_, _∷_}
+use mathlib.Core.Path.{_∙_, _≡_, ap, refl, subst, sym}
+use Prim.Native.Nat.{_*_, _+_, suc, ℕ}
+use native.Mathlib.Nat.{add-zero}
+use native.Mathlib.Numerals.{add-one}
+use native.Mathlib.Omega.{arith}
+use lib.ListN.{length, length-append}
+use Rattle.theory.proofs.Chain.{Each, each-append}
+use Rattle.theory.proofs.Index.{Ahead}
+use Rattle.theory.proofs.Phi.{carry, carry-left, carry-right, carry-tip}
+use Rattle.theory.proofs.Runs.{Lk}
+use Rattle.theory.proofs.Whole.{Walked}
+use Rattle.theory.specs.Corner.{next, previous}
+use Rattle.theory.specs.Letter.{byte}
+use Rattle.theory.specs.Mesh.{Sphere}
+use Rattle.theory.specs.Tables.{links}
+use Rattle.theory.specs.Walk.{Step, _＠_, lettersOf}
+use Rattle.theory.specs.Word.{Word, size, spell, wC, wE, wL, wR, wS}
+use Rattle.theory.specs.declared.Letter.{Letter}
+use Rattle.theory.specs.declared.Letter.the-variants.{C, E, L, R, S}
+
+pub letters-append : (a b : List Step) → lettersOf (a ++ b) ≡ lettersOf a ++ lettersOf b
+unfolding lettersOf
+letters-append [] b = refl
+letters-append ((x ＠ d) ∷ a) b = ap (λ (y : List ℕ). byte x ∷ y) (letters-append a b)
+
+module _ (lab opp : ℕ → ℕ) (g : ℕ) where
+  pub lk-letters : (w : Word) (x : ℕ) (q : List Step) → Lk lab opp g w x q → lettersOf q ≡ spell w
+  unfolding lettersOf spell
+  lk-letters wE x q h = ap lettersOf h
+  lk-letters (wC w) x q (q1, h, k) = ap lettersOf h ∙ ap (λ (y : List ℕ). byte C ∷ y) (lk-letters w (opp (next x)) q1 k)
+  lk-letters (wL w) x q (q1, h, k) = ap lettersOf h ∙ ap (λ (y : List ℕ). byte L ∷ y) (lk-letters w (opp (next x)) q1 k)
+  lk-letters (wR w) x q (q1, h, k) = ap lettersOf h ∙ ap (λ (y : List ℕ). byte R ∷ y) (lk-letters w (opp (previous x)) q1 k)
+  lk-letters (wS a b) x q (q1, q2, h, k, m) =
+      ap lettersOf h ∙ ap (λ (y : List ℕ). byte S ∷ y) (letters-append q1 q2 ∙ ap (λ (y : List ℕ). y ++ lettersOf q2) (lk-letters a (opp (next x)) q1 k) ∙ ap (λ (y : List ℕ). spell a ++ y) (lk-letters b (opp (previous x)) q2 m))
+
+  pub lk-length : (w : Word) (x : ℕ) (q : List Step) → Lk lab opp g w x q → length q ≡ size w
+  unfolding size
+  lk-length wE x q h = ap length h
+  lk-length (wC w) x q (q1, h, k) = ap length h ∙ ap suc (lk-length w (opp (next x)) q1 k)
+  lk-length (wL w) x q (q1, h, k) = ap length h ∙ ap suc (lk-length w (opp (next x)) q1 k)
+  lk-length (wR w) x q (q1, h, k) = ap length h ∙ ap suc (lk-length w (opp (previous x)) q1 k)
+  lk-length (wS a b) x q (q1, q2, h, k, m) =
+      let i = lk-length a (opp (next x)) q1 k in
+      let j = lk-length b (opp (previous x)) q2 m in
+      let n = length-append q1 q2 in
+      ap length h ∙ ap suc (omega arith)
+
+-- the letters of a word stand at its place
+abbrev pub Spells : (ℕ → Letter) → ℕ → Word → Type 0
+Spells sp k wE = sp k ≡ E
+Spells sp k (wC x) = (sp k ≡ C) × Spells sp (k + 1) x
+Spells sp k (wL x) = (sp k ≡ L) × Spells sp (k + 1) x
+Spells sp k (wR x) = (sp k ≡ R) × Spells sp (k + 1) x
+Spells sp k (wS x y) = (sp k ≡ S) × Spells sp (k + 1) x × Spells sp (k + 1 + size x) y
+
+-- a and b, in the walk's numbers, face each other in the mesh
+abbrev pub Faces : (ℕ → ℕ) → (ℕ → ℕ) → ℕ → ℕ → Type 0
+Faces opp co a b = opp (carry co a) ≡ carry co b
+
+module _ {lab opp : ℕ → ℕ} {t v g : ℕ} {mesh : Sphere lab opp t v g} {sp : ℕ → Letter} {co : ℕ → ℕ} (w : Walked mesh sp co) where
+  ahead-left : (k : ℕ) (a b : List Step) → Ahead mesh sp co k (a ++ b) → Ahead mesh sp co k a
+  ahead-left k [] b h = tt
+  ahead-left k ((x ＠ d) ∷ a) b h = (h .0, h .1, ahead-left (suc k) a b (h .2))
+
+  ahead-right : (k : ℕ) (a b : List Step) → Ahead mesh sp co k (a ++ b) → Ahead mesh sp co (k + length a) b
+  ahead-right k [] b h = rw (add-zero k) h
+  ahead-right k ((x ＠ d) ∷ a) b h = let wE : suc k + length a ≡ k + suc (length a) = omega arith in rw wE at (ahead-right (suc k) a b (h .2))
+
+  abbrev pub Linked : ℕ → Word → ℕ → Type 0
+  Linked k x d = (co k ≡ d) × Spells sp k x × Each (Faces opp co) (links k x)
+
+  join-right : (k j x : ℕ) → co k ≡ x → co j ≡ opp (next x) → Faces opp co (3 * k + 1) (3 * j)
+  join-right k j x p q = rw (carry-left co k, carry-tip co j, p) (sym q)
+
+  join-left : (k j x : ℕ) → co k ≡ x → co j ≡ opp (previous x) → Faces opp co (3 * k + 2) (3 * j)
+  join-left k j x p q = rw (carry-right co k, carry-tip co j, p) (sym q)
+
+  pub linked : (x : Word) (d k : ℕ) (q : List Step) → Lk lab opp g x d q → Ahead mesh sp co k q → Linked k x d
+  unfolding links
+  linked wE d k q h a = let z = rw h at a in (z .1, z .0, tt)
+  linked (wC x) d k q (q1, h, m) a =
+      let z = rw h at a in
+      let i = subst (λ (n : ℕ). Linked n x (opp (next d))) (sym (add-one k)) (linked x (opp (next d)) (suc k) q1 m (z .2)) in
+      (z .1, (z .0, i .1), (join-right k (k + 1) d (z .1) (i .0), i .2))
+  linked (wL x) d k q (q1, h, m) a =
+      let z = rw h at a in
+      let i = subst (λ (n : ℕ). Linked n x (opp (next d))) (sym (add-one k)) (linked x (opp (next d)) (suc k) q1 m (z .2)) in
+      (z .1, (z .0, i .1), (join-right k (k + 1) d (z .1) (i .0), i .2))
+  linked (wR x) d k q (q1, h, m) a =
+      let z = rw h at a in
+      let i = subst (λ (n : ℕ). Linked n x (opp (previous d))) (sym (add-one k)) (linked x (opp (previous d)) (suc k) q1 m (z .2)) in
+      (z .1, (z .0, i .1), (join-left k (k + 1) d (z .1) (i .0), i .2))
+  linked (wS x y) d k q (q1, q2, h, m, n) a =
+      let z = rw h at a in
+      let len = lk-length lab opp g x (opp (next d)) q1 m in
+      let at2 : suc k + length q1 ≡ k + 1 + size x = omega arith in
+      let i = subst (λ (n : ℕ). Linked n x (opp (next d))) (sym (add-one k)) (linked x (opp (next d)) (suc k) q1 m (ahead-left (suc k) q1 q2 (z .2))) in
+      let j = subst (λ (n : ℕ). Linked n y (opp (previous d))) at2 (linked y (opp (previous d)) (suc k + length q1) q2 n (ahead-right (suc k) q1 q2 (z .2))) in (
+        z .1,
+        (z .0, i .1, j .1),
+        (join-right k (k + 1) d (z .1) (i .0), (join-left k (k + 1 + size x) d (z .1) (j .0), each-append (Faces opp co) (links (k + 1) x) (links (k + 1 + size x) y) (i .2) (j .2))),
+      )

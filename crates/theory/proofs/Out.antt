@@ -1,0 +1,153 @@
+-- Out.
+use mathlib.Core.Logic.{_≢_, _⊎_, inl, inr}
+use mathlib.Core.Path.{_∙_, _≡_, ap, refl, sym}
+use Prim.Native.Nat.{_*_, _+_, _<_, _≤_, suc, ℕ}
+use native.Mathlib.Decide.{decLt, ℕ-discrete}
+use native.Mathlib.Omega.{arith}
+use Rattle.theory.proofs.Chain.{Each, each-left, each-right}
+use Rattle.theory.proofs.CornerLaws.{Place, at-left, at-right, at-tip, next-low, next-next, place, triangle-high, triangle-left, triangle-low, triangle-right, triangle-tip}
+use Rattle.theory.proofs.LetterLaws.{letters-differ}
+use Rattle.theory.proofs.Linked.{Faces, Spells}
+use Rattle.theory.proofs.Phi.{carry, carry-inj, carry-left, carry-low, carry-mate, carry-right, carry-tip, carry-triangle, mate, mate-at, mate-mate}
+use Rattle.theory.proofs.Ring.{fresh}
+use Rattle.theory.proofs.SphereLaws.{alone}
+use Rattle.theory.proofs.Times.{UpL, UpR, bottom, down-left, down-right, up-left, up-right}
+use Rattle.theory.proofs.Whole.{Walked}
+use Rattle.theory.specs.Corner.{next, triangle}
+use Rattle.theory.specs.Mesh.{Sphere}
+use Rattle.theory.specs.Tables.{links}
+use Rattle.theory.specs.Word.{Word, size, wC, wE, wL, wR, wS}
+use Rattle.theory.specs.declared.Letter.{Letter}
+use Rattle.theory.specs.declared.Letter.the-variants.{C, E, L, R, S}
+
+-- corner 0, or the left side of a C
+abbrev pub LeftOfC : (ℕ → Letter) → ℕ → Type 0
+LeftOfC sp y = (y ≡ 0) ⊎ ((j : ℕ) × (y ≡ 3 * j + 2) × (sp j ≡ C))
+
+-- b faces such a side of a step before k
+abbrev pub Outward : (ℕ → ℕ) → (ℕ → Letter) → (ℕ → ℕ) → ℕ → ℕ → Type 0
+Outward opp sp co k b = (y : ℕ) × (opp (carry co b) ≡ carry co y) × (y ≤ 3 * k) × LeftOfC sp y
+
+module _ {lab opp : ℕ → ℕ} {t v g : ℕ} {mesh : Sphere lab opp t v g} {sp : ℕ → Letter} {co : ℕ → ℕ} (w : Walked mesh sp co) where
+  abbrev pub SLeft : ℕ → ℕ → Type 0
+  SLeft k n = (j : ℕ) → k ≤ j → j < k + n → sp j ≡ S → (b : ℕ) × Faces opp co (3 * j + 2) (3 * b)
+
+  s-one : (k n : ℕ) (a : Letter) → sp k ≡ a → (a ≡ S → ⊥) → SLeft (k + 1) n → SLeft k (suc n)
+  s-one k n a q no-s f j p h u = go (ℕ-discrete j k)
+    where
+      go : Dec (j ≡ k) → (b : ℕ) × Faces opp co (3 * j + 2) (3 * b)
+      go (yes z) = absurd (no-s (sym q ∙ ap sp (sym z) ∙ u))
+      go (no z) = f j (omega arith) (omega arith) u
+
+  pub s-left : (x : Word) (k : ℕ) → Spells sp k x → Each (Faces opp co) (links k x) → SLeft k (size x)
+  unfolding links size
+  s-left wE k h m = λ j p q u. let z : j ≡ k = omega arith in absurd ((letters-differ E S refl) (sym h ∙ ap sp (sym z) ∙ u))
+  s-left (wC x) k h m = s-one k (size x) C (h .0) (letters-differ C S refl) (s-left x (k + 1) (h .1) (m .1))
+  s-left (wL x) k h m = s-one k (size x) L (h .0) (letters-differ L S refl) (s-left x (k + 1) (h .1) (m .1))
+  s-left (wR x) k h m = s-one k (size x) R (h .0) (letters-differ R S refl) (s-left x (k + 1) (h .1) (m .1))
+  s-left (wS x y) k h m =
+      let ja = s-left x (k + 1) (h .1) (each-left (Faces opp co) (links (k + 1) x) (links (k + 1 + size x) y) (m .1 .1)) in
+      let jb = s-left y (k + 1 + size x) (h .2) (each-right (Faces opp co) (links (k + 1) x) (links (k + 1 + size x) y) (m .1 .1)) in
+      λ j p q u. go ja jb j p q u (ℕ-discrete j k) (decLt j (k + 1 + size x))
+    where
+      go : SLeft (k + 1) (size x) → SLeft (k + 1 + size x) (size y) → (j : ℕ) → k ≤ j → j < k + suc (size x + size y) → sp j ≡ S → Dec (j ≡ k) → Dec (j < k + 1 + size x) → (b : ℕ) × Faces opp co (3 * j + 2) (3 * b)
+      go ja jb j p q u (yes z) d = (k + 1 + size x, rw z (m .1 .0))
+      go ja jb j p q u (no z) (yes d) = ja j (omega arith) (omega arith) u
+      go ja jb j p q u (no z) (no d) = jb j (omega arith) (omega arith) u
+
+  abbrev mt : ℕ → ℕ
+  mt = mate w
+
+  pub in-range : (k : ℕ) (a : Letter) → sp k ≡ a → (a ≡ S → ⊥) → k < t
+  in-range k a q n = go (decLt k t)
+    where
+      go : Dec (k < t) → k < t
+      go (yes h) = h
+      go (no h) = absurd (n (sym q ∙ w .sp-end k (omega arith)))
+
+  module _ (sl : SLeft 0 t) where
+    -- y, earlier than step k, whose mate x is a side of step k
+    kind : (k x y : ℕ) → k < t → triangle x ≡ k → x ≢ 3 * k → mt y ≡ x → triangle y < k → LeftOfC sp y
+    kind k x y h q n m u = go (place y)
+      where
+        back-to : (z : ℕ) → y ≡ z → triangle (mt z) ≡ k
+        back-to z eq = ap (λ (i : ℕ). triangle (mt i)) (sym eq) ∙ ap triangle m ∙ q
+
+        bottom-mate : (z b : ℕ) → y ≡ z → mt z ≡ 3 * b → ⊥
+        bottom-mate z b eq f =
+            let a : x ≡ 3 * b = sym m ∙ ap mt eq ∙ f in
+            let d : triangle x ≡ b = ap triangle a ∙ triangle-tip b in
+            n (omega arith)
+
+        right-side : (a : Letter) → sp (triangle y) ≡ a → y ≡ 3 * triangle y + 1 → (UpR a → ⊥) → LeftOfC sp y
+        right-side a p f d = let z = down-right w (triangle y) (omega arith) (rw p d) in let b = back-to (3 * triangle y + 1) f in absurd (omega arith)
+
+        right-up : (a : Letter) → sp (triangle y) ≡ a → y ≡ 3 * triangle y + 1 → UpR a → LeftOfC sp y
+        right-up a p f d = let z = up-right w (triangle y) (omega arith) (rw p d) in absurd (bottom-mate (3 * triangle y + 1) (suc (triangle y)) f (z .1))
+
+        left-down : (a : Letter) → sp (triangle y) ≡ a → y ≡ 3 * triangle y + 2 → (UpL a → ⊥) → LeftOfC sp y
+        left-down a p f d = let z = down-left w (triangle y) (omega arith) (rw p d) in let b = back-to (3 * triangle y + 2) f in absurd (omega arith)
+
+        on-right : (a : Letter) → sp (triangle y) ≡ a → y ≡ 3 * triangle y + 1 → LeftOfC sp y
+        on-right C p f = right-up C p f tt
+        on-right L p f = right-up L p f tt
+        on-right E p f = right-side E p f (λ z. z)
+        on-right R p f = right-side R p f (λ z. z)
+        on-right S p f = right-up S p f tt
+
+        on-left : (a : Letter) → sp (triangle y) ≡ a → y ≡ 3 * triangle y + 2 → LeftOfC sp y
+        on-left C p f = inr (triangle y, f, p)
+        on-left L p f = left-down L p f (λ z. z)
+        on-left E p f = left-down E p f (λ z. z)
+        on-left R p f = let z = up-left w (triangle y) (omega arith) p in absurd (bottom-mate (3 * triangle y + 2) (suc (triangle y)) f (z .1))
+        on-left S p f = let z = sl (triangle y) (omega arith) (omega arith) p in absurd (bottom-mate (3 * triangle y + 2) (z .0) f (mate-at w (3 * triangle y + 2) (3 * z .0) (z .1)))
+
+        on-tip : y ≡ 3 * triangle y → Dec (triangle y ≡ 0) → LeftOfC sp y
+        on-tip f (yes z) = inl (omega arith)
+        on-tip f (no z) = let b = bottom w (triangle y) (omega arith) (omega arith) in let d = back-to (3 * triangle y) f in absurd (omega arith)
+
+        go : Place y → LeftOfC sp y
+        go (at-tip f) = on-tip f (ℕ-discrete (triangle y) 0)
+        go (at-left f) = on-right (sp (triangle y)) refl f
+        go (at-right f) = on-left (sp (triangle y)) refl f
+
+    out : (k x : ℕ) → k < t → triangle x ≡ k → x ≢ 3 * k → triangle (mt x) < k → Outward opp sp co k x
+    out k x h q n u =
+        let a = triangle-high k (mt x) u in
+        (mt x, sym (carry-mate w x), omega arith, kind k x (mt x) h q n (mate-mate w x) u)
+
+    out-right : (k : ℕ) (a : Letter) → sp k ≡ a → (a ≡ S → ⊥) → (UpR a → ⊥) → Outward opp sp co k (3 * k + 1)
+    out-right k a q n u = let h = in-range k a q n in out k (3 * k + 1) h (triangle-left k) (λ z. omega arith) (down-right w k h (rw q u))
+
+    out-left : (k : ℕ) (a : Letter) → sp k ≡ a → (a ≡ S → ⊥) → (UpL a → ⊥) → Outward opp sp co k (3 * k + 2)
+    out-left k a q n u = let h = in-range k a q n in out k (3 * k + 2) h (triangle-right k) (λ z. omega arith) (down-left w k h (rw q u))
+
+    pub outR : (k : ℕ) → sp k ≡ R → Outward opp sp co k (3 * k + 1)
+    outR k q = out-right k R q (letters-differ R S refl) (λ z. z)
+
+    pub outL : (k : ℕ) → sp k ≡ L → Outward opp sp co k (3 * k + 2)
+    outL k q = out-left k L q (letters-differ L S refl) (λ z. z)
+
+    pub outE : (k : ℕ) → sp k ≡ E → Outward opp sp co k (3 * k + 1) × Outward opp sp co k (3 * k + 2)
+    outE k q = (out-right k E q (letters-differ E S refl) (λ z. z), out-left k E q (letters-differ E S refl) (λ z. z))
+
+  -- the tip of a C is at no corner before it
+  pub fresh-at : (k : ℕ) → sp k ≡ C → (y : ℕ) → y < 3 * k + 3 → y ≢ 3 * k → lab (carry co y) ≢ lab (carry co (3 * k))
+  fresh-at k q y h n u = go (decLt (triangle y) k)
+    where
+      low : k < t
+      low = in-range k C q (letters-differ C S refl)
+
+      go : Dec (triangle y < k) → ⊥
+      go (yes z) = fresh mesh sp co t (w .facts) k (carry co y) low q (triangle y, z, carry-triangle co y) (u ∙ ap lab (carry-tip co k))
+      go (no z) =
+          let a = triangle-low (suc k) y (omega arith) in
+          let lo : k < t = low in
+          let same : triangle y ≡ k = omega arith in
+          let b : triangle (carry co y) ≡ triangle (carry co (3 * k)) = carry-triangle co y ∙ ap (λ (i : ℕ). triangle (co i)) same ∙ ap triangle (sym (carry-tip co k)) in
+          n (carry-inj w y (3 * k) (alone mesh (carry co y) (carry co (3 * k)) (carry-low w (3 * k) (omega arith)) b u))
+
+  pub apart-at : (k : ℕ) → sp k ≡ C → lab (carry co (3 * k + 1)) ≢ lab (carry co (3 * k + 2))
+  apart-at k q u =
+      let low = in-range k C q (letters-differ C S refl) in
+      mesh .apart (next (co k)) (next-low t (co k) (w .facts k low .0 .0)) (ap lab (sym (carry-left co k)) ∙ u ∙ ap lab (carry-right co k ∙ sym (next-next (co k))))
