@@ -12,7 +12,6 @@ use Rattle.theory.specs.Corner.{next, previous}
 use Rattle.theory.specs.Lists.{back, front}
 use Rattle.theory.specs.Tables.{Pair, _⇌_, links}
 use Rattle.theory.specs.Word.{Sound, Word, size, wC, wE, wL, wR, wS}
-use denote.Struct.Rest.{rest}
 
 -- every join of a list
 abbrev pub Each : (ℕ → ℕ → Type 0) → List Pair → Type 0
@@ -34,6 +33,10 @@ each-append P ((x ⇌ y) ∷ a) b h i = (h .0, each-append P a b (h .1) i)
 pub each-map : (P Q : ℕ → ℕ → Type 0) (f : (x y : ℕ) → P x y → Q x y) (a : List Pair) → Each P a → Each Q a
 each-map P Q f [] h = tt
 each-map P Q f ((x ⇌ y) ∷ a) h = (f x y (h .0), each-map P Q f a (h .1))
+
+pub each-both : (P Q M : ℕ → ℕ → Type 0) (f : (x y : ℕ) → P x y → Q x y → M x y) (a : List Pair) → Each P a → Each Q a → Each M a
+each-both P Q M f [] h i = tt
+each-both P Q M f ((x ⇌ y) ∷ a) h i = (f x y (h .0) (i .0), each-both P Q M f a (h .1) (i .1))
 
 module _ (To : ℕ → ℕ → Type 0) (rfl : (x : ℕ) → To x x) (trs : (x y z : ℕ) → To x y → To y z → To x z) where
   abbrev pub Glue : ℕ → ℕ → Type 0

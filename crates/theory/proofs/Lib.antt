@@ -27,4 +27,11 @@ pub mod Tight
 pub mod Linked
 pub mod Out
 pub mod Match
+pub mod TableJoins
+pub mod Root
+pub mod VertexRange
+pub mod Fit
+pub mod Psi
+pub mod RoundTrip
+pub mod Iso
 pub mod Marked

@@ -102,3 +102,11 @@ module _ {lab opp : ℕ → ℕ} {t v g : ℕ} {mesh : Sphere lab opp t v g} {sp
         (z .0, i .1, j .1),
         (join-right k (k + 1) d (z .1) (i .0), (join-left k (k + 1 + size x) d (z .1) (j .0), each-append (Faces opp co) (links (k + 1) x) (links (k + 1 + size x) y) (i .2) (j .2))),
       )
+
+-- a walk whose steps follow a word
+pub record Worded {lab opp : ℕ → ℕ} {t v g : ℕ} (mesh : Sphere lab opp t v g) (sp : ℕ → Letter) (co : ℕ → ℕ) : Type 0 where
+  pub run : Walked mesh sp co
+  pub word : Word
+  pub sized : size word ≡ t
+  pub spells : Spells sp 0 word
+  pub linked : Each (Faces opp co) (links 0 word)

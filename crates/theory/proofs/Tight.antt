@@ -17,11 +17,12 @@ use Rattle.theory.proofs.Phi.{mate, mate-mate}
 use Rattle.theory.proofs.Runs.{Lk, LkF, forest, loose, nE, nS, tight}
 use Rattle.theory.proofs.Times.{later}
 use Rattle.theory.proofs.Whole.{Walked, ahead0, cornerOf, letterOf, steps, steps-length, the-run, walked}
+use Rattle.theory.proofs.WordLaws.{width-news}
 use Rattle.theory.specs.Answer.{each}
 use Rattle.theory.specs.Corner.{next, previous, triangle}
 use Rattle.theory.specs.Mesh.{Sphere}
 use Rattle.theory.specs.Walk.{Step, _＠_, tips, walk}
-use Rattle.theory.specs.Word.{Word}
+use Rattle.theory.specs.Word.{Sound, Word, news, size, width}
 use Rattle.theory.specs.declared.Letter.{Letter}
 use Rattle.theory.specs.declared.Letter.the-variants.{C, E, L, R, S}
 
@@ -150,3 +151,7 @@ module _ {lab opp : ℕ → ℕ} {t v g : ℕ} (mesh : Sphere lab opp t v g) whe
       go : (w : Word) × (ws : List Word) × LkF lab opp g (w ∷ ws) (g ∷ []) (steps mesh) → (w : Word) × Lk lab opp g w g (steps mesh)
       go (w, [], (q1, q2, h, k, n)) = (w, subst (Lk lab opp g w g) (sym (h ∙ ap (λ (y : List Step). q1 ++ y) n ∙ append-nil q1)) k)
       go (w, x ∷ ws, (q1, q2, h, k, n)) = absurd n
+
+  -- a word of width 2 and size t has v - 2 Cs
+  pub vertex-count : (x : Word) → Sound x → width x ≡ 2 → size x ≡ t → 2 + news x ≡ v
+  vertex-count x o two n = let a = width-news x o in let b = mesh .euler in omega arith

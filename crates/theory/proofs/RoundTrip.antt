@@ -1,0 +1,97 @@
+-- RoundTrip.
+use mathlib.Core.List.{List}
+use mathlib.Core.Path.{_∙_, _≡_, subst, sym}
+use Prim.Native.Nat.{_*_, _+_, _<_, ℕ}
+use lib.ListN.{length}
+use Rattle.theory.proofs.Linked.{Worded, linked, lk-length, lk-letters}
+use Rattle.theory.proofs.Phi.{carry, carry-low, carry-uncarry, time-inj, uncarry, uncarry-carry, uncarry-low}
+use Rattle.theory.proofs.Psi.{carry-vertex, naming, naming-low, naming-unnaming, news-count, read-back-low, unnaming, unnaming-low, unnaming-naming}
+use Rattle.theory.proofs.Root.{carry-opposite, word-sound, word-two}
+use Rattle.theory.proofs.Runs.{Lk}
+use Rattle.theory.proofs.Tight.{literal, word-of}
+use Rattle.theory.proofs.Whole.{ahead0, cornerOf, letterOf, steps, steps-length, walked}
+use Rattle.theory.specs.Corner.{opposite, triangle, vertex}
+use Rattle.theory.specs.Mesh.{Sphere}
+use Rattle.theory.specs.Renumber.{byWalk, turned}
+use Rattle.theory.specs.Tables.{tableO, tableV}
+use Rattle.theory.specs.Walk.{Step, cornersOf, lettersOf, walkFrom}
+use Rattle.theory.specs.Word.{Closes, Sound, Word, news, size, spell, width}
+
+pub record Round (lab opp : ℕ → ℕ) (t v g : ℕ) (steps : List Step) : Type 0 where
+  pub long : length steps ≡ t
+  -- each triangle is met once
+  pub once : (i j : ℕ) → triangle (cornerOf steps i) ≡ triangle (cornerOf steps j) → i ≡ j
+  pub met : (c : ℕ) → c < 3 * t → (k : ℕ) × (k < t) × (triangle c ≡ triangle (cornerOf steps k))
+  -- the string
+  pub word : Word
+  pub spelt : spell word ≡ lettersOf steps
+  pub sound : Sound word
+  pub two : width word ≡ 2
+  pub sized : size word ≡ t
+  pub counted : 2 + news word ≡ v
+  -- corners: byWalk and its inverse
+  pub gate : byWalk (cornersOf steps) 0 ≡ g
+  pub back : ℕ → ℕ
+  pub low : (x : ℕ) → x < 3 * t → byWalk (cornersOf steps) x < 3 * t
+  pub back-low : (c : ℕ) → c < 3 * t → back c < 3 * t
+  pub there : (c : ℕ) → byWalk (cornersOf steps) (back c) ≡ c
+  pub here : (x : ℕ) → back (byWalk (cornersOf steps) x) ≡ x
+  -- vertices: name and its inverse
+  pub name : ℕ → ℕ
+  pub unname : ℕ → ℕ
+  pub name-low : (u : ℕ) → u < v → name u < v
+  pub unname-low : (u : ℕ) → u < v → unname u < v
+  pub name-unname : (u : ℕ) → u < v → name (unname u) ≡ u
+  pub unname-name : (u : ℕ) → u < v → unname (name u) ≡ u
+  -- what is read back is the mesh
+  pub read-low : (x : ℕ) → x < 3 * t → vertex (tableV word) x < v
+  pub neighbours : (x : ℕ) → x < 3 * t → opp (byWalk (cornersOf steps) x) ≡ byWalk (cornersOf steps) (opposite (tableO word) x)
+  pub vertices : (x : ℕ) → x < 3 * t → lab (byWalk (cornersOf steps) x) ≡ name (vertex (tableV word) x)
+
+module _ {lab opp : ℕ → ℕ} {t v g : ℕ} (mesh : Sphere lab opp t v g) where
+  round-steps : Round lab opp t v g (steps mesh)
+  unfolding byWalk carry turned
+  round-steps = go (word-of mesh)
+    where
+      go : (w : Word) × Lk lab opp g w g (steps mesh) → Round lab opp t v g (steps mesh)
+      go (w, k) =
+          let q = steps mesh in
+          let r = walked mesh in
+          let n : size w ≡ t = sym (lk-length lab opp g w g q k) ∙ steps-length mesh in
+          let li = linked r w g 0 q k (ahead0 mesh q) in
+          let d : Worded mesh (letterOf (steps mesh)) (cornerOf (steps mesh)) = record { run = r; word = w; sized = n; spells = li .1; linked = li .2 } in
+          record {
+            long = steps-length mesh;
+            once = time-inj r;
+            met = r .seen-all;
+            word = w;
+            spelt = sym (lk-letters lab opp g w g q k);
+            sound = word-sound d;
+            two = word-two d;
+            sized = n;
+            counted = news-count d;
+            gate = r .start;
+            back = uncarry r;
+            low = carry-low r;
+            back-low = uncarry-low r;
+            there = carry-uncarry r;
+            here = uncarry-carry r;
+            name = naming d;
+            unname = unnaming d;
+            name-low = naming-low d;
+            unname-low = unnaming-low d;
+            name-unname = naming-unnaming d;
+            unname-name = unnaming-naming d;
+            read-low = read-back-low d;
+            neighbours = carry-opposite d;
+            vertices = carry-vertex d;
+          }
+
+  -- T3
+  pub round : Round lab opp t v g (walkFrom lab opp t g)
+  unfolding walkFrom
+  round = subst (Round lab opp t v g) (sym (literal mesh)) round-steps
+
+-- its string closes
+pub round-closes : {lab opp : ℕ → ℕ} {t v g : ℕ} {steps : List Step} → Round lab opp t v g steps → Closes (lettersOf steps)
+round-closes r = record { word = r .word; spelt = r .spelt; sound = r .sound; two = r .two }
