@@ -2,24 +2,22 @@
 use mathlib.Core.List.{List, [], _∷_, map}
 use mathlib.Core.Logic.{_⊎_, inl, inr}
 use mathlib.Core.Path.{_∙_, _≡_, ap, refl, sym}
-use Prim.Native.Nat.{_*_, _+_, _<_, suc, zero, ℕ}
+use Prim.Native.Nat.{_%_, _*_, _/_, _<_, suc, zero, ℕ}
 use native.Mathlib.Decide.{ℕ-discrete}
 use native.Mathlib.Omega.{arith}
 use lib.Dec.{eqb}
 use lib.ListN.{getD, length}
 use borrow.Author.Tests.{eq-eqb, ne-eqb}
-use Rattle.theory.proofs.CornerLaws.{Place, at-left, at-right, at-tip, next-low, next-previous, place, previous-low, previous-next, three, triangle-low, triangle-next, triangle-previous}
+use Rattle.theory.proofs.CornerLaws.{next-low, next-previous, previous-low, previous-next, three, triangle-low, triangle-next, triangle-previous}
 use Rattle.theory.proofs.Each.{EachN}
-use Rattle.theory.proofs.Phi.{carry, carry-left, carry-right, carry-tip}
 use Rattle.theory.proofs.Whole.{cornerOf}
 use Rattle.theory.specs.Corner.{inside, next, previous, triangle}
 use Rattle.theory.specs.Letter.{byte}
 use Rattle.theory.specs.Lists.{mem}
-use Rattle.theory.specs.Renumber.{Renumbering}
+use Rattle.theory.specs.Renumber.{Renumbering, byWalk, turned}
 use Rattle.theory.specs.Walk.{Step, _＠_, cornersOf, letterAt, lettersOf, marks, seen, tips, walk, walkFrom}
 use Rattle.theory.specs.declared.Letter.{Letter}
 use Rattle.theory.specs.declared.Letter.the-variants.{C, E, L, R, S}
-use types.Run.{from}
 
 -- one step of the walk, by its letter
 module _ (lab opp : ℕ → ℕ) (g n : ℕ) (pre : List Step) (x : ℕ) where
@@ -199,30 +197,18 @@ module _ {lab opp lab′ opp′ : ℕ → ℕ} {t v g g′ : ℕ} {h a : ℕ →
   pub same-letters : lettersOf (walkFrom lab′ opp′ t g′) ≡ lettersOf (walkFrom lab opp t g)
   same-letters = ap lettersOf encoded ∙ letters-map h (walkFrom lab opp t g)
 
-  -- the corners of the two walks, by time
-  abbrev co1 : ℕ → ℕ
-  co1 = cornerOf (walkFrom lab opp t g)
+  turned-map : (i c : ℕ) → c < 3 * t → h (turned i c) ≡ turned i (h c)
+  unfolding turned
+  turned-map zero c b = refl
+  turned-map (suc zero) c b = iso .turning c b
+  turned-map (suc (suc i)) c b = prev c b
 
-  abbrev co2 : ℕ → ℕ
-  co2 = cornerOf (walkFrom lab′ opp′ t g′)
-
-  same-corner : (k : ℕ) → k < length (walkFrom lab opp t g) → co2 k ≡ h (co1 k)
-  same-corner k p = ap (λ (q : List Step). cornerOf q k) encoded ∙ corners-map h (walkFrom lab opp t g) k (3 * k) (3 * k) p
-
-  -- h is phi2 after phi1's inverse
-  pub fixed : length (walkFrom lab opp t g) ≡ t → ((k : ℕ) → k < t → co1 k < 3 * t) → (x : ℕ) → x < 3 * t → h (carry co1 x) ≡ carry co2 x
-  fixed n lo x b = go (place x)
-    where
-      kl : triangle x < t
-      kl = triangle-low t x b
-
-      at : co2 (triangle x) ≡ h (co1 (triangle x))
-      at = let z = triangle-low t x b in same-corner (triangle x) (omega arith)
-
-      from : (y z : ℕ) → x ≡ y → h (carry co1 y) ≡ z → z ≡ carry co2 y → h (carry co1 x) ≡ carry co2 x
-      from y z e p q = ap (λ (i : ℕ). h (carry co1 i)) e ∙ p ∙ q ∙ ap (carry co2) (sym e)
-
-      go : Place x → h (carry co1 x) ≡ carry co2 x
-      go (at-tip e) = from (3 * triangle x) (co2 (triangle x)) e (ap h (carry-tip co1 (triangle x)) ∙ sym at) (sym (carry-tip co2 (triangle x)))
-      go (at-left e) = from (3 * triangle x + 1) (next (co2 (triangle x))) e (ap h (carry-left co1 (triangle x)) ∙ iso .turning (co1 (triangle x)) (lo (triangle x) kl) ∙ ap next (sym at)) (sym (carry-left co2 (triangle x)))
-      go (at-right e) = from (3 * triangle x + 2) (previous (co2 (triangle x))) e (ap h (carry-right co1 (triangle x)) ∙ prev (co1 (triangle x)) (lo (triangle x) kl) ∙ ap previous (sym at)) (sym (carry-right co2 (triangle x)))
+  -- h takes the corner at x of the one walk to the corner at x of the other
+  pub by-walk-map : (n : ℕ) → length (walkFrom lab opp t g) ≡ n → ((k : ℕ) → k < n → cornerOf (walkFrom lab opp t g) k < 3 * t) → (x : ℕ) → x < 3 * n
+      → h (byWalk (cornersOf (walkFrom lab opp t g)) x) ≡ byWalk (cornersOf (walkFrom lab′ opp′ t g′)) x
+  unfolding byWalk
+  by-walk-map n len lo x b =
+      let q = walkFrom lab opp t g in
+      let k = triangle-low n x b in
+      turned-map (x % 3) (cornerOf q (x / 3)) (lo (x / 3) k)
+      ∙ ap (turned (x % 3)) (sym (ap (λ (p : List Step). cornerOf p (x / 3)) encoded ∙ corners-map h q (x / 3) (3 * (x / 3)) (3 * (x / 3)) (omega arith)))

@@ -34,4 +34,5 @@ pub mod Fit
 pub mod Psi
 pub mod RoundTrip
 pub mod Iso
+pub mod Renumbered
 pub mod Marked

@@ -1,15 +1,17 @@
 -- Phi.
+use mathlib.Core.List.{List}
 use mathlib.Core.Logic.{_⊎_, inl, inr}
-use mathlib.Core.Path.{_∙_, _≡_, ap, sym}
+use mathlib.Core.Path.{_∙_, _≡_, ap, refl, sym}
 use Prim.Native.Nat.{_%_, _*_, _+_, _/_, _<_, _≤_, ℕ}
 use native.Mathlib.Decide.{decLt}
 use native.Mathlib.Omega.{arith}
+use lib.ListN.{getD}
 use Rattle.theory.proofs.CornerLaws.{by-place, next-left, next-moves, next-next, next-previous, next-right, next-tip, previous-moves, previous-next, three, triangle-high, triangle-left, triangle-low, triangle-next, triangle-previous, triangle-right, triangle-tip}
 use Rattle.theory.proofs.Counting.{pick}
 use Rattle.theory.proofs.Whole.{Walked}
 use Rattle.theory.specs.Corner.{next, previous, triangle}
 use Rattle.theory.specs.Mesh.{Sphere}
-use Rattle.theory.specs.Renumber.{turned}
+use Rattle.theory.specs.Renumber.{byWalk, turned}
 use Rattle.theory.specs.declared.Letter.{Letter}
 
 unfoldable pub carry : (ℕ → ℕ) → ℕ → ℕ
@@ -132,3 +134,14 @@ module _ {lab opp : ℕ → ℕ} {t v g : ℕ} {mesh : Sphere lab opp t v g} {sp
 
   pub mate-at : (x y : ℕ) → opp (carry co x) ≡ carry co y → mate x ≡ y
   mate-at x y h = carry-inj (mate x) y (carry-mate x ∙ h)
+
+-- the corner that a walk table puts at corner x of the tables read back
+pub by-walk : (cs : List ℕ) (x : ℕ) → byWalk cs x ≡ carry (λ k. getD cs k (3 * k)) x
+unfolding byWalk carry
+by-walk cs x = refl
+
+pub by-walk-next : (cs : List ℕ) (x : ℕ) → byWalk cs (next x) ≡ next (byWalk cs x)
+by-walk-next cs x = by-walk cs (next x) ∙ carry-next (λ k. getD cs k (3 * k)) x ∙ ap next (sym (by-walk cs x))
+
+pub by-walk-tip : (cs : List ℕ) (k : ℕ) → byWalk cs (3 * k) ≡ getD cs k (3 * k)
+by-walk-tip cs k = by-walk cs (3 * k) ∙ carry-tip (λ i. getD cs i (3 * i)) k
