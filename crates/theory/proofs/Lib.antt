@@ -35,4 +35,5 @@ pub mod Psi
 pub mod RoundTrip
 pub mod Iso
 pub mod Renumbered
+pub mod MeshStrings
 pub mod Marked

@@ -1,0 +1,90 @@
+-- Round trip and renumbering for tables: what accepted meshes and their strings have to do with each other.
+--
+-- Rule 13's ring part (`rings`) is not used: the other rules are enough.
+--
+--   mesh-round          T3: the walk of an accepted mesh has t steps, and reading its string back gives the mesh
+--   mesh-closes         its string closes
+--   letters-length corners-length   its string and its walk table have t entries
+--   strings-sizes strings-renumber  T4: equal strings, so equal sizes and a renumbering ..
+--   renumber-strings                .. and back
+--   renumber-corners renumber-vertices   there is only one renumbering, shown by the two walk tables
+use mathlib.Core.Bool.{_&&_, true}
+use mathlib.Core.List.{List}
+use mathlib.Core.Path.{_∙_, _≡_}
+use Prim.Native.Nat.{_%_, _*_, _/_, _<_, ℕ}
+use native.Mathlib.Omega.{arith}
+use lib.Dec.{eqb}
+use lib.ListN.{length}
+use borrow.Author.Tests.{eqb-true}
+use Rattle.theory.proofs.Renumbered.{cornerMap, equal-strings, only-corners, only-vertices, renumbered, same-t, same-v, vertexMap}
+use Rattle.theory.proofs.RoundTrip.{Round, round, round-closes}
+use Rattle.theory.proofs.TestLaws.{and-left, and-right}
+use Rattle.theory.proofs.Whole.{length-corners, length-letters}
+use Rattle.theory.specs.Answer.{countOk}
+use Rattle.theory.specs.Corner.{opposite, vertex}
+use Rattle.theory.specs.Mesh.{Accepted, shapeOk}
+use Rattle.theory.specs.Renumber.{Renumbering}
+use Rattle.theory.specs.Walk.{cornersOf, lettersOf, meshWalk}
+use Rattle.theory.specs.Word.{Closes}
+
+pub shape-length : (vs os : List ℕ) → shapeOk vs os ≡ true → (length vs ≡ length os) × (length vs ≡ 3 * (length vs / 3))
+unfolding shapeOk
+shape-length vs os h =
+    let rest = and-right (eqb (length vs) (length os)) (eqb (length vs % 3) 0 && countOk (length vs / 3)) h in
+    let a = eqb-true (length vs) (length os) (and-left (eqb (length vs) (length os)) (eqb (length vs % 3) 0 && countOk (length vs / 3)) h) in
+    let b = eqb-true (length vs % 3) 0 (and-left (eqb (length vs % 3) 0) (countOk (length vs / 3)) rest) in
+    (a, omega arith)
+
+module _ {vs os : List ℕ} {v g : ℕ} (m : Accepted vs os v g) where
+  -- T3
+  pub mesh-round : Round (vertex vs) (opposite os) (length vs / 3) v g (meshWalk vs os g)
+  unfolding meshWalk
+  mesh-round = round (m .sphere)
+
+  pub mesh-closes : Closes (lettersOf (meshWalk vs os g))
+  mesh-closes = round-closes mesh-round
+
+  pub letters-length : length (lettersOf (meshWalk vs os g)) ≡ length vs / 3
+  letters-length = length-letters (meshWalk vs os g) ∙ mesh-round .long
+
+  pub corners-length : length (cornersOf (meshWalk vs os g)) ≡ length vs / 3
+  corners-length = length-corners (meshWalk vs os g) ∙ mesh-round .long
+
+module _ {vs os vs′ os′ : List ℕ} {v g v′ g′ : ℕ} (m : Accepted vs os v g) (m′ : Accepted vs′ os′ v′ g′) where
+  abbrev pub OneMesh : (ℕ → ℕ) → (ℕ → ℕ) → Type 0
+  OneMesh h a = Renumbering (vertex vs) (opposite os) (vertex vs′) (opposite os′) (length vs / 3) v g g′ h a
+
+  abbrev pub Alike : Type 0
+  Alike = lettersOf (meshWalk vs os g) ≡ lettersOf (meshWalk vs′ os′ g′)
+
+  -- the renumbering, in the end
+  pub corners : ℕ → ℕ
+  corners = cornerMap (mesh-round m) (mesh-round m′)
+
+  pub names : ℕ → ℕ
+  names = vertexMap (mesh-round m) (mesh-round m′)
+
+  -- T4
+  pub strings-sizes : Alike → (length vs ≡ length vs′) × (v ≡ v′)
+  strings-sizes s =
+      let a = same-t (mesh-round m) (mesh-round m′) s in
+      let b = shape-length vs os (m .shape) .1 in
+      let d = shape-length vs′ os′ (m′ .shape) .1 in
+      (omega arith, same-v (mesh-round m) (mesh-round m′) s)
+
+  pub strings-renumber : Alike → OneMesh corners names
+  unfolding corners names
+  strings-renumber s = renumbered (mesh-round m) (mesh-round m′) s
+
+  module _ (n : length vs ≡ length vs′) {h a : ℕ → ℕ} (iso : OneMesh h a) where
+    pub renumber-strings : Alike
+    unfolding meshWalk
+    renumber-strings = equal-strings (m .sphere) (m′ .sphere) (omega arith) iso
+
+    pub renumber-corners : (c : ℕ) → c < 3 * (length vs / 3) → h c ≡ corners c
+    unfolding corners mesh-round
+    renumber-corners = only-corners (m .sphere) (m′ .sphere) (omega arith) iso
+
+    pub renumber-vertices : (u : ℕ) → u < v → a u ≡ names u
+    unfolding names mesh-round
+    renumber-vertices = only-vertices (m .sphere) (m′ .sphere) (omega arith) iso
