@@ -1,7 +1,7 @@
 -- Fit.
 use mathlib.Core.List.{List, [], _++_, _∷_}
 use mathlib.Core.Path.{_∙_, _≡_, ap, refl, subst, sym}
-use Prim.Native.Nat.{_*_, _+_, _-_, _<_, _≤_, one, suc, zero, ℕ}
+use Prim.Native.Nat.{_*_, _+_, _-_, _<_, _≤_, suc, zero, ℕ}
 use native.Mathlib.Nat.{add-zero}
 use native.Mathlib.Omega.{arith}
 use lib.ListN.{List·getD-append, drop, getD, length, length-append, take}
@@ -86,7 +86,7 @@ module _ (M N : ℕ → ℕ) where
   fit-split (suc i) (u ∷ []) (a ∷ xs) bs n h = absurd h
   fit-split (suc i) (u ∷ (y ∷ us)) (a ∷ xs) bs n h = let z = fit-split i (y ∷ us) xs bs (omega arith) (h .2) in ((h .0, h .1, z .0), z .1)
 
-  -- psi gives each new vertex the tip of its C
+  -- N gives each new vertex the tip of its C
   abbrev pub Names : ℕ → ℕ → Word → Type 0
   Names k nv wE = Unit {0}
   Names k nv (wC w) = (N nv ≡ M (3 * k)) × Names (k + 1) (nv + 1) w

@@ -11,7 +11,7 @@ use borrow.Author.Tests.{eq-eqb, ne-eqb}
 use Rattle.theory.proofs.CornerLaws.{next-low, next-previous, previous-low, previous-next, three, triangle-low, triangle-next, triangle-previous}
 use Rattle.theory.proofs.Each.{EachN}
 use Rattle.theory.proofs.Whole.{cornerOf}
-use Rattle.theory.specs.Corner.{inside, next, previous, triangle}
+use Rattle.theory.specs.Corner.{next, previous, triangle}
 use Rattle.theory.specs.Letter.{byte}
 use Rattle.theory.specs.Lists.{mem}
 use Rattle.theory.specs.Renumber.{Renumbering, byWalk, turned}
@@ -68,25 +68,25 @@ eqb-iff x y z u f k = go (ℕ-discrete x y)
     go (no p) = ne-eqb x y p ∙ sym (ne-eqb z u (λ (q : z ≡ u). p (k q)))
 
 module _ {lab opp lab′ opp′ : ℕ → ℕ} {t v g g′ : ℕ} {h a : ℕ → ℕ} (iso : Renumbering lab opp lab′ opp′ t v g g′ h a)
-    (gate1 : g < 3 * t) (inside : (x : ℕ) → x < 3 * t → opp x < 3 * t) (below : (x : ℕ) → x < 3 * t → lab x < v) where
-  prev : (x : ℕ) → x < 3 * t → h (previous x) ≡ previous (h x)
-  prev x b = sym (previous-next (h (previous x))) ∙ ap previous (sym (iso .turning (previous x) (previous-low t x b)) ∙ ap h (next-previous x))
+    (low : g < 3 * t) (inside : (x : ℕ) → x < 3 * t → opp x < 3 * t) (below : (x : ℕ) → x < 3 * t → lab x < v) where
+  previous-map : (x : ℕ) → x < 3 * t → h (previous x) ≡ previous (h x)
+  previous-map x b = sym (previous-next (h (previous x))) ∙ ap previous (sym (iso .turning (previous x) (previous-low t x b)) ∙ ap h (next-previous x))
 
-  tri-to : (x y : ℕ) → x < 3 * t → y < 3 * t → triangle x ≡ triangle y → triangle (h x) ≡ triangle (h y)
-  tri-to x y p q u = go (three x y u)
+  triangle-to : (x y : ℕ) → x < 3 * t → y < 3 * t → triangle x ≡ triangle y → triangle (h x) ≡ triangle (h y)
+  triangle-to x y p q u = go (three x y u)
     where
       go : _⊎_ (x ≡ y) (_⊎_ (x ≡ next y) (x ≡ previous y)) → triangle (h x) ≡ triangle (h y)
       go (inl z) = ap (λ (i : ℕ). triangle (h i)) z
       go (inr (inl z)) = ap (λ (i : ℕ). triangle (h i)) z ∙ ap triangle (iso .turning y q) ∙ triangle-next (h y)
-      go (inr (inr z)) = ap (λ (i : ℕ). triangle (h i)) z ∙ ap triangle (prev y q) ∙ triangle-previous (h y)
+      go (inr (inr z)) = ap (λ (i : ℕ). triangle (h i)) z ∙ ap triangle (previous-map y q) ∙ triangle-previous (h y)
 
-  tri-from : (x y : ℕ) → x < 3 * t → y < 3 * t → triangle (h x) ≡ triangle (h y) → triangle x ≡ triangle y
-  tri-from x y p q u = go (three (h x) (h y) u)
+  triangle-from : (x y : ℕ) → x < 3 * t → y < 3 * t → triangle (h x) ≡ triangle (h y) → triangle x ≡ triangle y
+  triangle-from x y p q u = go (three (h x) (h y) u)
     where
       go : _⊎_ (h x ≡ h y) (_⊎_ (h x ≡ next (h y)) (h x ≡ previous (h y))) → triangle x ≡ triangle y
       go (inl z) = ap triangle (iso .inj x y p q z)
       go (inr (inl z)) = ap triangle (iso .inj x (next y) p (next-low t y q) (z ∙ sym (iso .turning y q))) ∙ triangle-next y
-      go (inr (inr z)) = ap triangle (iso .inj x (previous y) p (previous-low t y q) (z ∙ sym (prev y q))) ∙ triangle-previous y
+      go (inr (inr z)) = ap triangle (iso .inj x (previous y) p (previous-low t y q) (z ∙ sym (previous-map y q))) ∙ triangle-previous y
 
   abbrev Low : List Step → Type 0
   Low [] = Unit {0}
@@ -95,7 +95,7 @@ module _ {lab opp lab′ opp′ : ℕ → ℕ} {t v g g′ : ℕ} {h a : ℕ →
   seen-map : (pre : List Step) (x : ℕ) → Low pre → x < 3 * t → seen (mapSteps h pre) (h x) ≡ seen pre x
   unfolding seen mapSteps
   seen-map [] x l b = refl
-  seen-map ((c ＠ d) ∷ pre) x l b = rw (eqb-iff (triangle (h x)) (triangle (h d)) (triangle x) (triangle d) (tri-from x d b (l .0)) (tri-to x d b (l .0)), seen-map pre x (l .1) b)
+  seen-map ((c ＠ d) ∷ pre) x l b = rw (eqb-iff (triangle (h x)) (triangle (h d)) (triangle x) (triangle d) (triangle-from x d b (l .0)) (triangle-to x d b (l .0)), seen-map pre x (l .1) b)
 
   -- vertices
   eqb-name : (y z : ℕ) → y < v → z < v → eqb (a y) (a z) ≡ eqb y z
@@ -111,22 +111,22 @@ module _ {lab opp lab′ opp′ : ℕ → ℕ} {t v g g′ : ℕ} {h a : ℕ →
   tips-map ((S ＠ d) ∷ pre) y l b = tips-map pre y (l .1) b
 
   end-next : lab′ (next g′) ≡ a (lab (next g))
-  end-next = ap (λ (x : ℕ). lab′ (next x)) (sym (iso .gate)) ∙ ap lab′ (sym (iso .turning g gate1)) ∙ iso .vertex (next g) (next-low t g gate1)
+  end-next = ap (λ (x : ℕ). lab′ (next x)) (sym (iso .gate)) ∙ ap lab′ (sym (iso .turning g low)) ∙ iso .vertex (next g) (next-low t g low)
 
-  end-prev : lab′ (previous g′) ≡ a (lab (previous g))
-  end-prev = ap (λ (x : ℕ). lab′ (previous x)) (sym (iso .gate)) ∙ ap lab′ (sym (prev g gate1)) ∙ iso .vertex (previous g) (previous-low t g gate1)
+  end-previous : lab′ (previous g′) ≡ a (lab (previous g))
+  end-previous = ap (λ (x : ℕ). lab′ (previous x)) (sym (iso .gate)) ∙ ap lab′ (sym (previous-map g low)) ∙ iso .vertex (previous g) (previous-low t g low)
 
   marks-map : (pre : List Step) (x : ℕ) → Low pre → x < 3 * t
       → mem (lab′ (h x)) (marks lab′ g′ (mapSteps h pre)) ≡ mem (lab x) (marks lab g pre)
   unfolding mem marks
   marks-map pre x l b =
-      rw (iso .vertex x b, end-next, end-prev, eqb-name (lab x) (lab (next g)) (below x b) (below (next g) (next-low t g gate1)), eqb-name (lab x) (lab (previous g)) (below x b) (below (previous g) (previous-low t g gate1)), tips-map pre (lab x) l (below x b))
+      rw (iso .vertex x b, end-next, end-previous, eqb-name (lab x) (lab (next g)) (below x b) (below (next g) (next-low t g low)), eqb-name (lab x) (lab (previous g)) (below x b) (below (previous g) (previous-low t g low)), tips-map pre (lab x) l (below x b))
 
   right-map : (x : ℕ) → x < 3 * t → opp′ (next (h x)) ≡ h (opp (next x))
   right-map x b = ap opp′ (sym (iso .turning x b)) ∙ sym (iso .neighbour (next x) (next-low t x b))
 
   left-map : (x : ℕ) → x < 3 * t → opp′ (previous (h x)) ≡ h (opp (previous x))
-  left-map x b = ap opp′ (sym (prev x b)) ∙ sym (iso .neighbour (previous x) (previous-low t x b))
+  left-map x b = ap opp′ (sym (previous-map x b)) ∙ sym (iso .neighbour (previous x) (previous-low t x b))
 
   right-low : (x : ℕ) → x < 3 * t → opp (next x) < 3 * t
   right-low x b = inside (next x) (next-low t x b)
@@ -189,19 +189,19 @@ module _ {lab opp lab′ opp′ : ℕ → ℕ} {t v g g′ : ℕ} {h a : ℕ →
           ∙ ap (mapSteps h) (sym (walk-S lab opp g n pre x st q))
 
   -- the walks correspond
-  pub encoded : walkFrom lab′ opp′ t g′ ≡ mapSteps h (walkFrom lab opp t g)
+  pub walk-map : walkFrom lab′ opp′ t g′ ≡ mapSteps h (walkFrom lab opp t g)
   unfolding walkFrom mapSteps
-  encoded = ap (λ (y : ℕ). walk lab′ opp′ g′ t [] [] y) (sym (iso .gate)) ∙ carried t [] [] g tt tt gate1
+  walk-map = ap (λ (y : ℕ). walk lab′ opp′ g′ t [] [] y) (sym (iso .gate)) ∙ carried t [] [] g tt tt low
 
   -- T4, forward
   pub same-letters : lettersOf (walkFrom lab′ opp′ t g′) ≡ lettersOf (walkFrom lab opp t g)
-  same-letters = ap lettersOf encoded ∙ letters-map h (walkFrom lab opp t g)
+  same-letters = ap lettersOf walk-map ∙ letters-map h (walkFrom lab opp t g)
 
   turned-map : (i c : ℕ) → c < 3 * t → h (turned i c) ≡ turned i (h c)
   unfolding turned
   turned-map zero c b = refl
   turned-map (suc zero) c b = iso .turning c b
-  turned-map (suc (suc i)) c b = prev c b
+  turned-map (suc (suc i)) c b = previous-map c b
 
   -- h takes the corner at x of the one walk to the corner at x of the other
   pub by-walk-map : (n : ℕ) → length (walkFrom lab opp t g) ≡ n → ((k : ℕ) → k < n → cornerOf (walkFrom lab opp t g) k < 3 * t) → (x : ℕ) → x < 3 * n
@@ -211,4 +211,4 @@ module _ {lab opp lab′ opp′ : ℕ → ℕ} {t v g g′ : ℕ} {h a : ℕ →
       let q = walkFrom lab opp t g in
       let k = triangle-low n x b in
       turned-map (x % 3) (cornerOf q (x / 3)) (lo (x / 3) k)
-      ∙ ap (turned (x % 3)) (sym (ap (λ (p : List Step). cornerOf p (x / 3)) encoded ∙ corners-map h q (x / 3) (3 * (x / 3)) (3 * (x / 3)) (omega arith)))
+      ∙ ap (turned (x % 3)) (sym (ap (λ (p : List Step). cornerOf p (x / 3)) walk-map ∙ corners-map h q (x / 3) (3 * (x / 3)) (3 * (x / 3)) (omega arith)))

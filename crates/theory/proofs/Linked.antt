@@ -9,7 +9,7 @@ use lib.ListN.{length, length-append}
 use Rattle.theory.proofs.Chain.{Each, each-append}
 use Rattle.theory.proofs.Index.{Ahead}
 use Rattle.theory.proofs.Phi.{carry, carry-left, carry-right, carry-tip}
-use Rattle.theory.proofs.Runs.{Lk}
+use Rattle.theory.proofs.Runs.{Follows}
 use Rattle.theory.proofs.Whole.{Walked}
 use Rattle.theory.specs.Corner.{next, previous}
 use Rattle.theory.specs.Letter.{byte}
@@ -26,25 +26,25 @@ letters-append [] b = refl
 letters-append ((x ＠ d) ∷ a) b = ap (λ (y : List ℕ). byte x ∷ y) (letters-append a b)
 
 module _ (lab opp : ℕ → ℕ) (g : ℕ) where
-  pub lk-letters : (w : Word) (x : ℕ) (q : List Step) → Lk lab opp g w x q → lettersOf q ≡ spell w
+  pub follows-letters : (w : Word) (x : ℕ) (q : List Step) → Follows lab opp g w x q → lettersOf q ≡ spell w
   unfolding lettersOf spell
-  lk-letters wE x q h = ap lettersOf h
-  lk-letters (wC w) x q (q1, h, k) = ap lettersOf h ∙ ap (λ (y : List ℕ). byte C ∷ y) (lk-letters w (opp (next x)) q1 k)
-  lk-letters (wL w) x q (q1, h, k) = ap lettersOf h ∙ ap (λ (y : List ℕ). byte L ∷ y) (lk-letters w (opp (next x)) q1 k)
-  lk-letters (wR w) x q (q1, h, k) = ap lettersOf h ∙ ap (λ (y : List ℕ). byte R ∷ y) (lk-letters w (opp (previous x)) q1 k)
-  lk-letters (wS a b) x q (q1, q2, h, k, m) =
-      ap lettersOf h ∙ ap (λ (y : List ℕ). byte S ∷ y) (letters-append q1 q2 ∙ ap (λ (y : List ℕ). y ++ lettersOf q2) (lk-letters a (opp (next x)) q1 k) ∙ ap (λ (y : List ℕ). spell a ++ y) (lk-letters b (opp (previous x)) q2 m))
+  follows-letters wE x q h = ap lettersOf h
+  follows-letters (wC w) x q (q₁, h, k) = ap lettersOf h ∙ ap (λ (y : List ℕ). byte C ∷ y) (follows-letters w (opp (next x)) q₁ k)
+  follows-letters (wL w) x q (q₁, h, k) = ap lettersOf h ∙ ap (λ (y : List ℕ). byte L ∷ y) (follows-letters w (opp (next x)) q₁ k)
+  follows-letters (wR w) x q (q₁, h, k) = ap lettersOf h ∙ ap (λ (y : List ℕ). byte R ∷ y) (follows-letters w (opp (previous x)) q₁ k)
+  follows-letters (wS a b) x q (q₁, q₂, h, k, m) =
+      ap lettersOf h ∙ ap (λ (y : List ℕ). byte S ∷ y) (letters-append q₁ q₂ ∙ ap (λ (y : List ℕ). y ++ lettersOf q₂) (follows-letters a (opp (next x)) q₁ k) ∙ ap (λ (y : List ℕ). spell a ++ y) (follows-letters b (opp (previous x)) q₂ m))
 
-  pub lk-length : (w : Word) (x : ℕ) (q : List Step) → Lk lab opp g w x q → length q ≡ size w
+  pub follows-length : (w : Word) (x : ℕ) (q : List Step) → Follows lab opp g w x q → length q ≡ size w
   unfolding size
-  lk-length wE x q h = ap length h
-  lk-length (wC w) x q (q1, h, k) = ap length h ∙ ap suc (lk-length w (opp (next x)) q1 k)
-  lk-length (wL w) x q (q1, h, k) = ap length h ∙ ap suc (lk-length w (opp (next x)) q1 k)
-  lk-length (wR w) x q (q1, h, k) = ap length h ∙ ap suc (lk-length w (opp (previous x)) q1 k)
-  lk-length (wS a b) x q (q1, q2, h, k, m) =
-      let i = lk-length a (opp (next x)) q1 k in
-      let j = lk-length b (opp (previous x)) q2 m in
-      let n = length-append q1 q2 in
+  follows-length wE x q h = ap length h
+  follows-length (wC w) x q (q₁, h, k) = ap length h ∙ ap suc (follows-length w (opp (next x)) q₁ k)
+  follows-length (wL w) x q (q₁, h, k) = ap length h ∙ ap suc (follows-length w (opp (next x)) q₁ k)
+  follows-length (wR w) x q (q₁, h, k) = ap length h ∙ ap suc (follows-length w (opp (previous x)) q₁ k)
+  follows-length (wS a b) x q (q₁, q₂, h, k, m) =
+      let i = follows-length a (opp (next x)) q₁ k in
+      let j = follows-length b (opp (previous x)) q₂ m in
+      let n = length-append q₁ q₂ in
       ap length h ∙ ap suc (omega arith)
 
 -- the letters of a word stand at its place
@@ -77,27 +77,27 @@ module _ {lab opp : ℕ → ℕ} {t v g : ℕ} {mesh : Sphere lab opp t v g} {sp
   join-left : (k j x : ℕ) → co k ≡ x → co j ≡ opp (previous x) → Faces opp co (3 * k + 2) (3 * j)
   join-left k j x p q = rw (carry-right co k, carry-tip co j, p) (sym q)
 
-  pub linked : (x : Word) (d k : ℕ) (q : List Step) → Lk lab opp g x d q → Ahead mesh sp co k q → Linked k x d
+  pub linked : (x : Word) (d k : ℕ) (q : List Step) → Follows lab opp g x d q → Ahead mesh sp co k q → Linked k x d
   unfolding links
   linked wE d k q h a = let z = rw h at a in (z .1, z .0, tt)
-  linked (wC x) d k q (q1, h, m) a =
+  linked (wC x) d k q (q₁, h, m) a =
       let z = rw h at a in
-      let i = subst (λ (n : ℕ). Linked n x (opp (next d))) (sym (add-one k)) (linked x (opp (next d)) (suc k) q1 m (z .2)) in
+      let i = subst (λ (n : ℕ). Linked n x (opp (next d))) (sym (add-one k)) (linked x (opp (next d)) (suc k) q₁ m (z .2)) in
       (z .1, (z .0, i .1), (join-right k (k + 1) d (z .1) (i .0), i .2))
-  linked (wL x) d k q (q1, h, m) a =
+  linked (wL x) d k q (q₁, h, m) a =
       let z = rw h at a in
-      let i = subst (λ (n : ℕ). Linked n x (opp (next d))) (sym (add-one k)) (linked x (opp (next d)) (suc k) q1 m (z .2)) in
+      let i = subst (λ (n : ℕ). Linked n x (opp (next d))) (sym (add-one k)) (linked x (opp (next d)) (suc k) q₁ m (z .2)) in
       (z .1, (z .0, i .1), (join-right k (k + 1) d (z .1) (i .0), i .2))
-  linked (wR x) d k q (q1, h, m) a =
+  linked (wR x) d k q (q₁, h, m) a =
       let z = rw h at a in
-      let i = subst (λ (n : ℕ). Linked n x (opp (previous d))) (sym (add-one k)) (linked x (opp (previous d)) (suc k) q1 m (z .2)) in
+      let i = subst (λ (n : ℕ). Linked n x (opp (previous d))) (sym (add-one k)) (linked x (opp (previous d)) (suc k) q₁ m (z .2)) in
       (z .1, (z .0, i .1), (join-left k (k + 1) d (z .1) (i .0), i .2))
-  linked (wS x y) d k q (q1, q2, h, m, n) a =
+  linked (wS x y) d k q (q₁, q₂, h, m, n) a =
       let z = rw h at a in
-      let len = lk-length lab opp g x (opp (next d)) q1 m in
-      let at2 : suc k + length q1 ≡ k + 1 + size x = omega arith in
-      let i = subst (λ (n : ℕ). Linked n x (opp (next d))) (sym (add-one k)) (linked x (opp (next d)) (suc k) q1 m (ahead-left (suc k) q1 q2 (z .2))) in
-      let j = subst (λ (n : ℕ). Linked n y (opp (previous d))) at2 (linked y (opp (previous d)) (suc k + length q1) q2 n (ahead-right (suc k) q1 q2 (z .2))) in (
+      let len = follows-length lab opp g x (opp (next d)) q₁ m in
+      let at2 : suc k + length q₁ ≡ k + 1 + size x = omega arith in
+      let i = subst (λ (n : ℕ). Linked n x (opp (next d))) (sym (add-one k)) (linked x (opp (next d)) (suc k) q₁ m (ahead-left (suc k) q₁ q₂ (z .2))) in
+      let j = subst (λ (n : ℕ). Linked n y (opp (previous d))) at2 (linked y (opp (previous d)) (suc k + length q₁) q₂ n (ahead-right (suc k) q₁ q₂ (z .2))) in (
         z .1,
         (z .0, i .1, j .1),
         (join-right k (k + 1) d (z .1) (i .0), (join-left k (k + 1 + size x) d (z .1) (j .0), each-append (Faces opp co) (links (k + 1) x) (links (k + 1 + size x) y) (i .2) (j .2))),

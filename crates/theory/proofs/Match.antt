@@ -14,7 +14,7 @@ use Rattle.theory.proofs.LetterLaws.{letters-differ}
 use Rattle.theory.proofs.Linked.{Faces, Spells}
 use Rattle.theory.proofs.ListLaws.{snoc-view}
 use Rattle.theory.proofs.Opens.{cover, length-opens, mates, opens, opens-low}
-use Rattle.theory.proofs.Out.{LeftOfC, Outward, SLeft, apart-at, fresh-at, outE, outL, outR}
+use Rattle.theory.proofs.Out.{LeftOfC, Outward, SplitLeft, apart-at, fresh-at, out-E, out-L, out-R}
 use Rattle.theory.proofs.Phi.{carry, carry-inj, carry-next, carry-previous}
 use Rattle.theory.proofs.SphereLaws.{glued-left}
 use Rattle.theory.proofs.Whole.{Walked}
@@ -27,7 +27,7 @@ use Rattle.theory.specs.Word.{Sound, Word, size, wC, wE, wL, wR, wS, wid
 use Rattle.theory.specs.declared.Letter.{Letter}
 use Rattle.theory.specs.declared.Letter.the-variants.{C, E, L, R, S}
 
-module _ {lab opp : ℕ → ℕ} {t v g : ℕ} {mesh : Sphere lab opp t v g} {sp : ℕ → Letter} {co : ℕ → ℕ} (run : Walked mesh sp co) (sl : SLeft run 0 t) where
+module _ {lab opp : ℕ → ℕ} {t v g : ℕ} {mesh : Sphere lab opp t v g} {sp : ℕ → Letter} {co : ℕ → ℕ} (run : Walked mesh sp co) (lefts : SplitLeft run 0 t) where
   abbrev Same : ℕ → ℕ → Type 0
   Same x y = lab (carry co x) ≡ lab (carry co y)
 
@@ -88,9 +88,9 @@ module _ {lab opp : ℕ → ℕ} {t v g : ℕ} {mesh : Sphere lab opp t v g} {sp
       absurd (apart-at run k t (a ∙ h ∙ d))
   wide k b (x ∷ xs) t h jn g0 = omega arith
 
-  lowerC : (k b x : ℕ) → Join b (3 * k + 2) → Out (k + 1) x → x ≢ b → Out k x
-  lowerC k b x jn (y, q, u, inl z) ne = (y, q, omega arith, inl z)
-  lowerC k b x jn (y, q, u, inr (j, z, m)) ne = (y, q, go (decLt j k), inr (j, z, m))
+  lower-C : (k b x : ℕ) → Join b (3 * k + 2) → Out (k + 1) x → x ≢ b → Out k x
+  lower-C k b x jn (y, q, u, inl z) ne = (y, q, omega arith, inl z)
+  lower-C k b x jn (y, q, u, inr (j, z, m)) ne = (y, q, go (decLt j k), inr (j, z, m))
     where
       go : Dec (j < k) → y ≤ 3 * k
       go (yes a) = omega arith
@@ -114,9 +114,9 @@ module _ {lab opp : ℕ → ℕ} {t v g : ℕ} {mesh : Sphere lab opp t v g} {sp
       let w1 = bit-refl b in
       eachN-absent b fr (omega arith)
 
-  closeAt : (k : ℕ) (w : Word) (fr : List ℕ) (b : ℕ) → opens (k + 1) w ≡ fr ++ (b ∷ []) → sp k ≡ C → Join (3 * k + 1) (3 * (k + 1)) → Each Join (links (k + 1) w) → Res (k + 1) w
+  close-at : (k : ℕ) (w : Word) (fr : List ℕ) (b : ℕ) → opens (k + 1) w ≡ fr ++ (b ∷ []) → sp k ≡ C → Join (3 * k + 1) (3 * (k + 1)) → Each Join (links (k + 1) w) → Res (k + 1) w
     → (3 ≤ width w) × Join b (3 * k + 2) × (b < 3 * (k + 1 + size w)) × EachN (Out k) fr
-  closeAt k w fr b v t g0 g i =
+  close-at k w fr b v t g0 g i =
       let ch = chained (k + 1) w fr b v g (i .0) (i .1) in
       let ob = eachN-last (Out (k + 1)) fr b (rw v at (i .3)) in
       let tip : Same (3 * k) (3 * (k + 1) + 1) = rw (previous-left, next-tip) at (side (3 * k + 1) (3 * (k + 1)) g0) in
@@ -126,11 +126,11 @@ module _ {lab opp : ℕ → ℕ} {t v g : ℕ} {mesh : Sphere lab opp t v g} {sp
       let n = length-opens (k + 1) w (i .0) in
       let m = ap length v ∙ length-append fr (b ∷ []) in
       let lo = eachN-last (λ x. (3 * (k + 1) < x) × (x < 3 * (k + 1 + size w))) fr b (rw v at (opens-low (k + 1) w (i .0))) in
-      (omega arith, jn, lo .1, eachN-both (Out (k + 1)) (λ x. x ≢ b) (Out k) (λ x o ne. lowerC k b x jn o ne) fr (eachN-left (Out (k + 1)) fr (b ∷ []) (rw v at (i .3))) (lone (k + 1) w fr b v (i .0)))
+      (omega arith, jn, lo .1, eachN-both (Out (k + 1)) (λ x. x ≢ b) (Out k) (λ x o ne. lower-C k b x jn o ne) fr (eachN-left (Out (k + 1)) fr (b ∷ []) (rw v at (i .3))) (lone (k + 1) w fr b v (i .0)))
 
   close : (k : ℕ) (w : Word) → sp k ≡ C → Join (3 * k + 1) (3 * (k + 1)) → Each Join (links (k + 1) w) → Res (k + 1) w → Res k (wC w)
   unfolding mates opens size
-  close k w t g0 g i = go (closeAt k w (front (opens (k + 1) w)) (back (opens (k + 1) w)) (let n = length-opens (k + 1) w (i .0) in let two = width-two w (i .0) in snoc-view (opens (k + 1) w) (omega arith)) t g0 g i)
+  close k w t g0 g i = go (close-at k w (front (opens (k + 1) w)) (back (opens (k + 1) w)) (let n = length-opens (k + 1) w (i .0) in let two = width-two w (i .0) in snoc-view (opens (k + 1) w) (omega arith)) t g0 g i)
     where
       go : (3 ≤ width w) × Join (back (opens (k + 1) w)) (3 * k + 2) × (back (opens (k + 1) w) < 3 * (k + 1 + size w)) × EachN (Out k) (front (opens (k + 1) w)) → Res k (wC w)
       go z = ((i .0, z .0), (z .1, i .1), (λ j a d q. pick2 j a d q (decLt k j)), z .3)
@@ -139,9 +139,9 @@ module _ {lab opp : ℕ → ℕ} {t v g : ℕ} {mesh : Sphere lab opp t v g} {sp
           pick2 j a d q (yes m) = let u = i .2 j (omega arith) (omega arith) q in (u .0, u .1, omega arith)
           pick2 j a d q (no m) = let n : j ≡ k = omega arith in (back (opens (k + 1) w), rw n (turn (back (opens (k + 1) w)) (3 * k + 2) (z .1)), omega arith)
 
-  splitInner : (k : ℕ) (a b : Word) → (sp k ≡ C → ⊥) → Inner (k + 1) a → Inner (k + 1 + size a) b
+  split-inner : (k : ℕ) (a b : Word) → (sp k ≡ C → ⊥) → Inner (k + 1) a → Inner (k + 1 + size a) b
     → (j : ℕ) → k ≤ j → j < k + suc (size a + size b) → sp j ≡ C → (x : ℕ) × (Join (3 * j + 2) x) × (x < 3 * (k + suc (size a + size b)))
-  splitInner k a b h i d j m n q = go (decLt k j) (decLt j (k + 1 + size a))
+  split-inner k a b h i d j m n q = go (decLt k j) (decLt j (k + 1 + size a))
     where
       go : Dec (k < j) → Dec (j < k + 1 + size a) → (x : ℕ) × (Join (3 * j + 2) x) × (x < 3 * (k + suc (size a + size b)))
       go (no u) v = let z : j ≡ k = omega arith in absurd (h (rw z at q))
@@ -164,23 +164,23 @@ module _ {lab opp : ℕ → ℕ} {t v g : ℕ} {mesh : Sphere lab opp t v g} {sp
   -- E10
   pub match : (k : ℕ) (w : Word) → Spells sp k w → Each Join (links k w) → Res k w
   unfolding links mates opens size
-  match k wE t g = (tt, tt, (λ j a b q. let m : j ≡ k = omega arith in absurd ((letters-differ E C refl) (sym t ∙ (rw m at q)))), (outE run sl k t .0, (outE run sl k t .1, tt)))
+  match k wE t g = (tt, tt, (λ j a b q. let m : j ≡ k = omega arith in absurd ((letters-differ E C refl) (sym t ∙ (rw m at q)))), (out-E run lefts k t .0, (out-E run lefts k t .1, tt)))
   match k (wC w) t g = close k w (t .0) (g .0) (g .1) (match (k + 1) w (t .1) (g .1))
   match k (wL w) t g =
       let i = match (k + 1) w (t .1) (g .1) in
       let no-c : sp k ≡ C → ⊥ = λ q. (letters-differ L C refl) (sym (t .0) ∙ q) in
-      (i .0, i .1, inner-up k w no-c (i .2), eachN-append (Out k) (opens (k + 1) w) ((3 * k + 2) ∷ []) (eachN-map (Out (k + 1)) (Out k) (λ x o. lower k x no-c o) (opens (k + 1) w) (i .3)) (outL run sl k (t .0), tt))
+      (i .0, i .1, inner-up k w no-c (i .2), eachN-append (Out k) (opens (k + 1) w) ((3 * k + 2) ∷ []) (eachN-map (Out (k + 1)) (Out k) (λ x o. lower k x no-c o) (opens (k + 1) w) (i .3)) (out-L run lefts k (t .0), tt))
   match k (wR w) t g =
       let i = match (k + 1) w (t .1) (g .1) in
       let no-c : sp k ≡ C → ⊥ = λ q. (letters-differ R C refl) (sym (t .0) ∙ q) in
-      (i .0, i .1, inner-up k w no-c (i .2), (outR run sl k (t .0), eachN-map (Out (k + 1)) (Out k) (λ x o. lower k x no-c o) (opens (k + 1) w) (i .3)))
+      (i .0, i .1, inner-up k w no-c (i .2), (out-R run lefts k (t .0), eachN-map (Out (k + 1)) (Out k) (λ x o. lower k x no-c o) (opens (k + 1) w) (i .3)))
   match k (wS a b) t g =
       let i = match (k + 1) a (t .1) (each-left Join (links (k + 1) a) (links (k + 1 + size a) b) (g .1 .1)) in
       let d = match (k + 1 + size a) b (t .2) (each-right Join (links (k + 1) a) (links (k + 1 + size a) b) (g .1 .1)) in
       let no-c : sp k ≡ C → ⊥ = λ q. (letters-differ S C refl) (sym (t .0) ∙ q) in
       ( (i .0, d .0)
       , each-append Join (mates (k + 1) a) (mates (k + 1 + size a) b) (i .1) (d .1)
-      , splitInner k a b no-c (i .2) (d .2)
+      , split-inner k a b no-c (i .2) (d .2)
       , eachN-append (Out k) (opens (k + 1) a) (opens (k + 1 + size a) b)
           (eachN-map (Out (k + 1)) (Out k) (λ x o. lower k x no-c o) (opens (k + 1) a) (i .3))
           (eachN-both (Out (k + 1 + size a)) (λ x. (3 * (k + 1 + size a) < x) × (x < 3 * (k + 1 + size a + size b))) (Out k)

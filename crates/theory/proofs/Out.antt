@@ -10,7 +10,7 @@ use Rattle.theory.proofs.LetterLaws.{letters-differ}
 use Rattle.theory.proofs.Linked.{Faces, Spells}
 use Rattle.theory.proofs.Phi.{carry, carry-inj, carry-left, carry-low, carry-mate, carry-right, carry-tip, carry-triangle, mate, mate-at, mate-mate}
 use Rattle.theory.proofs.Ring.{fresh}
-use Rattle.theory.proofs.SphereLaws.{alone}
+use Rattle.theory.proofs.SphereLaws.{one-corner}
 use Rattle.theory.proofs.Times.{UpL, UpR, bottom, down-left, down-right, up-left, up-right}
 use Rattle.theory.proofs.Whole.{Walked}
 use Rattle.theory.specs.Corner.{next, triangle}
@@ -29,34 +29,34 @@ abbrev pub Outward : (ℕ → ℕ) → (ℕ → Letter) → (ℕ → ℕ) → �
 Outward opp sp co k b = (y : ℕ) × (opp (carry co b) ≡ carry co y) × (y ≤ 3 * k) × LeftOfC sp y
 
 module _ {lab opp : ℕ → ℕ} {t v g : ℕ} {mesh : Sphere lab opp t v g} {sp : ℕ → Letter} {co : ℕ → ℕ} (w : Walked mesh sp co) where
-  abbrev pub SLeft : ℕ → ℕ → Type 0
-  SLeft k n = (j : ℕ) → k ≤ j → j < k + n → sp j ≡ S → (b : ℕ) × Faces opp co (3 * j + 2) (3 * b)
+  abbrev pub SplitLeft : ℕ → ℕ → Type 0
+  SplitLeft k n = (j : ℕ) → k ≤ j → j < k + n → sp j ≡ S → (b : ℕ) × Faces opp co (3 * j + 2) (3 * b)
 
-  s-one : (k n : ℕ) (a : Letter) → sp k ≡ a → (a ≡ S → ⊥) → SLeft (k + 1) n → SLeft k (suc n)
-  s-one k n a q no-s f j p h u = go (ℕ-discrete j k)
+  split-one : (k n : ℕ) (a : Letter) → sp k ≡ a → (a ≡ S → ⊥) → SplitLeft (k + 1) n → SplitLeft k (suc n)
+  split-one k n a q no-s f j p h u = go (ℕ-discrete j k)
     where
       go : Dec (j ≡ k) → (b : ℕ) × Faces opp co (3 * j + 2) (3 * b)
       go (yes z) = absurd (no-s (sym q ∙ ap sp (sym z) ∙ u))
       go (no z) = f j (omega arith) (omega arith) u
 
-  pub s-left : (x : Word) (k : ℕ) → Spells sp k x → Each (Faces opp co) (links k x) → SLeft k (size x)
+  pub split-left : (x : Word) (k : ℕ) → Spells sp k x → Each (Faces opp co) (links k x) → SplitLeft k (size x)
   unfolding links size
-  s-left wE k h m = λ j p q u. let z : j ≡ k = omega arith in absurd ((letters-differ E S refl) (sym h ∙ ap sp (sym z) ∙ u))
-  s-left (wC x) k h m = s-one k (size x) C (h .0) (letters-differ C S refl) (s-left x (k + 1) (h .1) (m .1))
-  s-left (wL x) k h m = s-one k (size x) L (h .0) (letters-differ L S refl) (s-left x (k + 1) (h .1) (m .1))
-  s-left (wR x) k h m = s-one k (size x) R (h .0) (letters-differ R S refl) (s-left x (k + 1) (h .1) (m .1))
-  s-left (wS x y) k h m =
-      let ja = s-left x (k + 1) (h .1) (each-left (Faces opp co) (links (k + 1) x) (links (k + 1 + size x) y) (m .1 .1)) in
-      let jb = s-left y (k + 1 + size x) (h .2) (each-right (Faces opp co) (links (k + 1) x) (links (k + 1 + size x) y) (m .1 .1)) in
+  split-left wE k h m = λ j p q u. let z : j ≡ k = omega arith in absurd ((letters-differ E S refl) (sym h ∙ ap sp (sym z) ∙ u))
+  split-left (wC x) k h m = split-one k (size x) C (h .0) (letters-differ C S refl) (split-left x (k + 1) (h .1) (m .1))
+  split-left (wL x) k h m = split-one k (size x) L (h .0) (letters-differ L S refl) (split-left x (k + 1) (h .1) (m .1))
+  split-left (wR x) k h m = split-one k (size x) R (h .0) (letters-differ R S refl) (split-left x (k + 1) (h .1) (m .1))
+  split-left (wS x y) k h m =
+      let ja = split-left x (k + 1) (h .1) (each-left (Faces opp co) (links (k + 1) x) (links (k + 1 + size x) y) (m .1 .1)) in
+      let jb = split-left y (k + 1 + size x) (h .2) (each-right (Faces opp co) (links (k + 1) x) (links (k + 1 + size x) y) (m .1 .1)) in
       λ j p q u. go ja jb j p q u (ℕ-discrete j k) (decLt j (k + 1 + size x))
     where
-      go : SLeft (k + 1) (size x) → SLeft (k + 1 + size x) (size y) → (j : ℕ) → k ≤ j → j < k + suc (size x + size y) → sp j ≡ S → Dec (j ≡ k) → Dec (j < k + 1 + size x) → (b : ℕ) × Faces opp co (3 * j + 2) (3 * b)
+      go : SplitLeft (k + 1) (size x) → SplitLeft (k + 1 + size x) (size y) → (j : ℕ) → k ≤ j → j < k + suc (size x + size y) → sp j ≡ S → Dec (j ≡ k) → Dec (j < k + 1 + size x) → (b : ℕ) × Faces opp co (3 * j + 2) (3 * b)
       go ja jb j p q u (yes z) d = (k + 1 + size x, rw z (m .1 .0))
       go ja jb j p q u (no z) (yes d) = ja j (omega arith) (omega arith) u
       go ja jb j p q u (no z) (no d) = jb j (omega arith) (omega arith) u
 
-  abbrev mt : ℕ → ℕ
-  mt = mate w
+  abbrev mate′ : ℕ → ℕ
+  mate′ = mate w
 
   pub in-range : (k : ℕ) (a : Letter) → sp k ≡ a → (a ≡ S → ⊥) → k < t
   in-range k a q n = go (decLt k t)
@@ -65,17 +65,17 @@ module _ {lab opp : ℕ → ℕ} {t v g : ℕ} {mesh : Sphere lab opp t v g} {sp
       go (yes h) = h
       go (no h) = absurd (n (sym q ∙ w .sp-end k (omega arith)))
 
-  module _ (sl : SLeft 0 t) where
+  module _ (lefts : SplitLeft 0 t) where
     -- y, earlier than step k, whose mate x is a side of step k
-    kind : (k x y : ℕ) → k < t → triangle x ≡ k → x ≢ 3 * k → mt y ≡ x → triangle y < k → LeftOfC sp y
+    kind : (k x y : ℕ) → k < t → triangle x ≡ k → x ≢ 3 * k → mate′ y ≡ x → triangle y < k → LeftOfC sp y
     kind k x y h q n m u = go (place y)
       where
-        back-to : (z : ℕ) → y ≡ z → triangle (mt z) ≡ k
-        back-to z eq = ap (λ (i : ℕ). triangle (mt i)) (sym eq) ∙ ap triangle m ∙ q
+        back-to : (z : ℕ) → y ≡ z → triangle (mate′ z) ≡ k
+        back-to z eq = ap (λ (i : ℕ). triangle (mate′ i)) (sym eq) ∙ ap triangle m ∙ q
 
-        bottom-mate : (z b : ℕ) → y ≡ z → mt z ≡ 3 * b → ⊥
+        bottom-mate : (z b : ℕ) → y ≡ z → mate′ z ≡ 3 * b → ⊥
         bottom-mate z b eq f =
-            let a : x ≡ 3 * b = sym m ∙ ap mt eq ∙ f in
+            let a : x ≡ 3 * b = sym m ∙ ap mate′ eq ∙ f in
             let d : triangle x ≡ b = ap triangle a ∙ triangle-tip b in
             n (omega arith)
 
@@ -100,7 +100,7 @@ module _ {lab opp : ℕ → ℕ} {t v g : ℕ} {mesh : Sphere lab opp t v g} {sp
         on-left L p f = left-down L p f (λ z. z)
         on-left E p f = left-down E p f (λ z. z)
         on-left R p f = let z = up-left w (triangle y) (omega arith) p in absurd (bottom-mate (3 * triangle y + 2) (suc (triangle y)) f (z .1))
-        on-left S p f = let z = sl (triangle y) (omega arith) (omega arith) p in absurd (bottom-mate (3 * triangle y + 2) (z .0) f (mate-at w (3 * triangle y + 2) (3 * z .0) (z .1)))
+        on-left S p f = let z = lefts (triangle y) (omega arith) (omega arith) p in absurd (bottom-mate (3 * triangle y + 2) (z .0) f (mate-at w (3 * triangle y + 2) (3 * z .0) (z .1)))
 
         on-tip : y ≡ 3 * triangle y → Dec (triangle y ≡ 0) → LeftOfC sp y
         on-tip f (yes z) = inl (omega arith)
@@ -111,10 +111,10 @@ module _ {lab opp : ℕ → ℕ} {t v g : ℕ} {mesh : Sphere lab opp t v g} {sp
         go (at-left f) = on-right (sp (triangle y)) refl f
         go (at-right f) = on-left (sp (triangle y)) refl f
 
-    out : (k x : ℕ) → k < t → triangle x ≡ k → x ≢ 3 * k → triangle (mt x) < k → Outward opp sp co k x
+    out : (k x : ℕ) → k < t → triangle x ≡ k → x ≢ 3 * k → triangle (mate′ x) < k → Outward opp sp co k x
     out k x h q n u =
-        let a = triangle-high k (mt x) u in
-        (mt x, sym (carry-mate w x), omega arith, kind k x (mt x) h q n (mate-mate w x) u)
+        let a = triangle-high k (mate′ x) u in
+        (mate′ x, sym (carry-mate w x), omega arith, kind k x (mate′ x) h q n (mate-mate w x) u)
 
     out-right : (k : ℕ) (a : Letter) → sp k ≡ a → (a ≡ S → ⊥) → (UpR a → ⊥) → Outward opp sp co k (3 * k + 1)
     out-right k a q n u = let h = in-range k a q n in out k (3 * k + 1) h (triangle-left k) (λ z. omega arith) (down-right w k h (rw q u))
@@ -122,14 +122,14 @@ module _ {lab opp : ℕ → ℕ} {t v g : ℕ} {mesh : Sphere lab opp t v g} {sp
     out-left : (k : ℕ) (a : Letter) → sp k ≡ a → (a ≡ S → ⊥) → (UpL a → ⊥) → Outward opp sp co k (3 * k + 2)
     out-left k a q n u = let h = in-range k a q n in out k (3 * k + 2) h (triangle-right k) (λ z. omega arith) (down-left w k h (rw q u))
 
-    pub outR : (k : ℕ) → sp k ≡ R → Outward opp sp co k (3 * k + 1)
-    outR k q = out-right k R q (letters-differ R S refl) (λ z. z)
+    pub out-R : (k : ℕ) → sp k ≡ R → Outward opp sp co k (3 * k + 1)
+    out-R k q = out-right k R q (letters-differ R S refl) (λ z. z)
 
-    pub outL : (k : ℕ) → sp k ≡ L → Outward opp sp co k (3 * k + 2)
-    outL k q = out-left k L q (letters-differ L S refl) (λ z. z)
+    pub out-L : (k : ℕ) → sp k ≡ L → Outward opp sp co k (3 * k + 2)
+    out-L k q = out-left k L q (letters-differ L S refl) (λ z. z)
 
-    pub outE : (k : ℕ) → sp k ≡ E → Outward opp sp co k (3 * k + 1) × Outward opp sp co k (3 * k + 2)
-    outE k q = (out-right k E q (letters-differ E S refl) (λ z. z), out-left k E q (letters-differ E S refl) (λ z. z))
+    pub out-E : (k : ℕ) → sp k ≡ E → Outward opp sp co k (3 * k + 1) × Outward opp sp co k (3 * k + 2)
+    out-E k q = (out-right k E q (letters-differ E S refl) (λ z. z), out-left k E q (letters-differ E S refl) (λ z. z))
 
   -- the tip of a C is at no corner before it
   pub fresh-at : (k : ℕ) → sp k ≡ C → (y : ℕ) → y < 3 * k + 3 → y ≢ 3 * k → lab (carry co y) ≢ lab (carry co (3 * k))
@@ -145,7 +145,7 @@ module _ {lab opp : ℕ → ℕ} {t v g : ℕ} {mesh : Sphere lab opp t v g} {sp
           let lo : k < t = low in
           let same : triangle y ≡ k = omega arith in
           let b : triangle (carry co y) ≡ triangle (carry co (3 * k)) = carry-triangle co y ∙ ap (λ (i : ℕ). triangle (co i)) same ∙ ap triangle (sym (carry-tip co k)) in
-          n (carry-inj w y (3 * k) (alone mesh (carry co y) (carry co (3 * k)) (carry-low w (3 * k) (omega arith)) b u))
+          n (carry-inj w y (3 * k) (one-corner mesh (carry co y) (carry co (3 * k)) (carry-low w (3 * k) (omega arith)) b u))
 
   pub apart-at : (k : ℕ) → sp k ≡ C → lab (carry co (3 * k + 1)) ≢ lab (carry co (3 * k + 2))
   apart-at k q u =

@@ -22,7 +22,6 @@ use Rattle.theory.proofs.VertexRange.{rows-low}
 use Rattle.theory.specs.Corner.{next, previous, vertex}
 use Rattle.theory.specs.Mesh.{Sphere}
 use Rattle.theory.specs.Tables.{links, tableV}
-use Rattle.theory.specs.Walk.{walk}
 use Rattle.theory.specs.Word.{news}
 use Rattle.theory.specs.declared.Letter.{Letter}
 

@@ -6,7 +6,6 @@ use native.Mathlib.Omega.{arith}
 use Rattle.theory.proofs.Iso.{by-walk-map, same-letters}
 use Rattle.theory.proofs.Phi.{by-walk-next, by-walk-tip}
 use Rattle.theory.proofs.RoundTrip.{Round, round}
-use Rattle.theory.proofs.Whole.{steps}
 use Rattle.theory.proofs.WordLaws.{spell-injective}
 use Rattle.theory.specs.Corner.{next, opposite, vertex}
 use Rattle.theory.specs.Mesh.{Sphere}

@@ -9,7 +9,7 @@ use Rattle.theory.proofs.Counting.{count, pick, pigeon}
 use Rattle.theory.proofs.Index.{Earlier, Fact, Side, longer}
 use Rattle.theory.proofs.Injections.{length-vals, order, vals, vals-has, vals-off, vals-once}
 use Rattle.theory.proofs.LetterLaws.{is-C}
-use Rattle.theory.proofs.SphereLaws.{alone, glued-left}
+use Rattle.theory.proofs.SphereLaws.{glued-left, one-corner}
 use Rattle.theory.specs.Answer.{each}
 use Rattle.theory.specs.Corner.{next, previous, swing, triangle}
 use Rattle.theory.specs.Lists.{all, iter}
@@ -39,10 +39,10 @@ module _ {lab opp : ℕ → ℕ} {t v g : ℕ} (mesh : Sphere lab opp t v g) whe
     abbrev pub Seen : ℕ → Type 0
     Seen x = Earlier mesh sp co m x
 
-    seen-nx : (x : ℕ) → Seen x → Seen (next x)
-    seen-nx x (j, h, q) = (j, h, triangle-next x ∙ q)
+    seen-next : (x : ℕ) → Seen x → Seen (next x)
+    seen-next x (j, h, q) = (j, h, triangle-next x ∙ q)
 
-    -- all corners of a's ring are seen: so is the neighbour over the side pv a
+    -- all corners of a's ring are seen: so is the neighbour over the side previous a
     back-side : (a : ℕ) → a < 3 * t → ((i : ℕ) → Seen (iter (swing opp) i a)) → Seen (opp (previous a))
     unfolding iter
     back-side a h all =
@@ -50,7 +50,7 @@ module _ {lab opp : ℕ → ℕ} {t v g : ℕ} (mesh : Sphere lab opp t v g) whe
         let x = iter (swing opp) (o .0) a in
         let b : opp (next x) ≡ previous a = sym (previous-next (opp (next x))) ∙ ap previous (o .1) in
         let d : next x ≡ opp (previous a) = sym (mesh .paired (next x)) ∙ ap opp b in
-        rw (← d) (seen-nx x (all (o .0)))
+        rw (← d) (seen-next x (all (o .0)))
 
     rightSeen : (k : ℕ) → k < m → Seen (opp (next (co k)))
     rightSeen k h = go (sp k) (facts k h .1)
@@ -100,14 +100,14 @@ module _ {lab opp : ℕ → ℕ} {t v g : ℕ} (mesh : Sphere lab opp t v g) whe
     ring k h c f (suc i) = go (ring k h c f i)
       where
         go : Seen (iter (swing opp) i (co k)) → Seen (swing opp (iter (swing opp) i (co k)))
-        go (j, q, u) = seen-nx (opp (next (iter (swing opp) i (co k)))) (pick (decLt j k) (decLt k j))
+        go (j, q, u) = seen-next (opp (next (iter (swing opp) i (co k)))) (pick (decLt j k) (decLt k j))
           where
             pick : Dec (j < k) → Dec (k < j) → Seen (opp (next (iter (swing opp) i (co k))))
             pick (yes z) w = absurd (fresh k (iter (swing opp) i (co k)) h c (j, z, u) (lab-iter i (co k)))
             pick (no z) (yes w) = around j (next (iter (swing opp) i (co k))) (f j w q) (omega arith) q (triangle-next (iter (swing opp) i (co k)) ∙ u)
             pick (no z) (no w) =
                 let e : j ≡ k = omega arith in
-                let same : iter (swing opp) i (co k) ≡ co k = alone mesh (iter (swing opp) i (co k)) (co k) (facts k h .0 .0) (u ∙ ap (λ (y : ℕ). triangle (co y)) e) (lab-iter i (co k)) in
+                let same : iter (swing opp) i (co k) ≡ co k = one-corner mesh (iter (swing opp) i (co k)) (co k) (facts k h .0 .0) (u ∙ ap (λ (y : ℕ). triangle (co y)) e) (lab-iter i (co k)) in
                 rw same (rightSeen k h)
 
     -- by recursion on m - k
@@ -128,13 +128,13 @@ module _ {lab opp : ℕ → ℕ} {t v g : ℕ} (mesh : Sphere lab opp t v g) whe
     gate-ring h (suc i) = go (gate-ring h i)
       where
         go : Seen (iter (swing opp) i (next (co 0))) → Seen (swing opp (iter (swing opp) i (next (co 0))))
-        go (j, q, u) = seen-nx (opp (next (iter (swing opp) i (next (co 0))))) (pick (decLt 0 j))
+        go (j, q, u) = seen-next (opp (next (iter (swing opp) i (next (co 0))))) (pick (decLt 0 j))
           where
             pick : Dec (0 < j) → Seen (opp (next (iter (swing opp) i (next (co 0)))))
             pick (yes w) = around j (next (iter (swing opp) i (next (co 0)))) (λ z. left-seen j q) w q (triangle-next (iter (swing opp) i (next (co 0))) ∙ u)
             pick (no w) =
                 let e : j ≡ 0 = omega arith in
-                let same : iter (swing opp) i (next (co 0)) ≡ next (co 0) = alone mesh (iter (swing opp) i (next (co 0))) (next (co 0)) (next-low t (co 0) (facts 0 h .0 .0)) (u ∙ ap (λ (y : ℕ). triangle (co y)) e ∙ sym (triangle-next (co 0))) (lab-iter i (next (co 0))) in
+                let same : iter (swing opp) i (next (co 0)) ≡ next (co 0) = one-corner mesh (iter (swing opp) i (next (co 0))) (next (co 0)) (next-low t (co 0) (facts 0 h .0 .0)) (u ∙ ap (λ (y : ℕ). triangle (co y)) e ∙ sym (triangle-next (co 0))) (lab-iter i (next (co 0))) in
                 rw (same, next-next (co 0)) (left-seen 0 h)
 
     -- the gate's own neighbour

@@ -12,14 +12,13 @@ use Rattle.theory.proofs.JoinLaws.{Both, up}
 use Rattle.theory.proofs.Linked.{Faces, Worded}
 use Rattle.theory.proofs.Match.{match}
 use Rattle.theory.proofs.Opens.{cover, length-opens, mates, opens}
-use Rattle.theory.proofs.Out.{Outward, SLeft, s-left}
+use Rattle.theory.proofs.Out.{Outward, SplitLeft, split-left}
 use Rattle.theory.proofs.Phi.{carry, carry-inj}
 use Rattle.theory.proofs.TableJoins.{entry-at}
 use Rattle.theory.proofs.WordLaws.{width-two}
 use Rattle.theory.specs.Corner.{opposite}
 use Rattle.theory.specs.Mesh.{Sphere}
 use Rattle.theory.specs.Tables.{joins, links, tableO, zips}
-use Rattle.theory.specs.Walk.{walk}
 use Rattle.theory.specs.Word.{Sound, size, width}
 use Rattle.theory.specs.declared.Letter.{Letter}
 
@@ -33,8 +32,8 @@ module _ {lab opp : ℕ → ℕ} {t v g : ℕ} {mesh : Sphere lab opp t v g} {sp
       let z = match (walk .run) lefts 0 (walk .word) (walk .spells) (walk .linked) in
       (z .0, z .1, z .3)
     where
-      lefts : SLeft (walk .run) 0 t
-      lefts j p q u = s-left (walk .run) (walk .word) 0 (walk .spells) (walk .linked) j p (rw (walk .sized) q) u
+      lefts : SplitLeft (walk .run) 0 t
+      lefts j p q u = split-left (walk .run) (walk .word) 0 (walk .spells) (walk .linked) j p (rw (walk .sized) q) u
 
   pub word-sound : Sound (walk .word)
   word-sound = matched .0

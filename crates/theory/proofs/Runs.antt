@@ -26,56 +26,56 @@ drop-same (skip q d) h = let i = drop-len d in absurd (omega arith)
 module _ (lab opp : ℕ → ℕ) (g : ℕ) where
   -- the walk that skips waiting lefts seen meanwhile, ended
   pub data Run : List Step → List ℕ → ℕ → List Step → Type 0 where
-    goC : {pre : List Step} {st : List ℕ} {x : ℕ} {q : List Step} → letterAt lab opp g pre x ≡ C → Run ((C ＠ x) ∷ pre) st (opp (next x)) q → Run pre st x ((C ＠ x) ∷ q)
-    goL : {pre : List Step} {st : List ℕ} {x : ℕ} {q : List Step} → letterAt lab opp g pre x ≡ L → Run ((L ＠ x) ∷ pre) st (opp (next x)) q → Run pre st x ((L ＠ x) ∷ q)
-    goR : {pre : List Step} {st : List ℕ} {x : ℕ} {q : List Step} → letterAt lab opp g pre x ≡ R → Run ((R ＠ x) ∷ pre) st (opp (previous x)) q → Run pre st x ((R ＠ x) ∷ q)
-    goS : {pre : List Step} {st : List ℕ} {x : ℕ} {q : List Step} → letterAt lab opp g pre x ≡ S → Run ((S ＠ x) ∷ pre) (opp (previous x) ∷ st) (opp (next x)) q → Run pre st x ((S ＠ x) ∷ q)
-    goE : {pre : List Step} {st rest : List ℕ} {x d : ℕ} {q : List Step} → letterAt lab opp g pre x ≡ E → Drop ((E ＠ x) ∷ pre) st (d ∷ rest) → seen ((E ＠ x) ∷ pre) d ≡ false
+    new : {pre : List Step} {st : List ℕ} {x : ℕ} {q : List Step} → letterAt lab opp g pre x ≡ C → Run ((C ＠ x) ∷ pre) st (opp (next x)) q → Run pre st x ((C ＠ x) ∷ q)
+    left-done : {pre : List Step} {st : List ℕ} {x : ℕ} {q : List Step} → letterAt lab opp g pre x ≡ L → Run ((L ＠ x) ∷ pre) st (opp (next x)) q → Run pre st x ((L ＠ x) ∷ q)
+    right-done : {pre : List Step} {st : List ℕ} {x : ℕ} {q : List Step} → letterAt lab opp g pre x ≡ R → Run ((R ＠ x) ∷ pre) st (opp (previous x)) q → Run pre st x ((R ＠ x) ∷ q)
+    split : {pre : List Step} {st : List ℕ} {x : ℕ} {q : List Step} → letterAt lab opp g pre x ≡ S → Run ((S ＠ x) ∷ pre) (opp (previous x) ∷ st) (opp (next x)) q → Run pre st x ((S ＠ x) ∷ q)
+    resume : {pre : List Step} {st rest : List ℕ} {x d : ℕ} {q : List Step} → letterAt lab opp g pre x ≡ E → Drop ((E ＠ x) ∷ pre) st (d ∷ rest) → seen ((E ＠ x) ∷ pre) d ≡ false
         → Run ((E ＠ x) ∷ pre) rest d q → Run pre st x ((E ＠ x) ∷ q)
     end : {pre : List Step} {st : List ℕ} {x : ℕ} → letterAt lab opp g pre x ≡ E → Drop ((E ＠ x) ∷ pre) st [] → Run pre st x ((E ＠ x) ∷ [])
 
 -- letters E and S of a run, counted
-unfoldable pub nE : List Step → ℕ
-nE [] = 0
-nE ((C ＠ d) ∷ q) = nE q
-nE ((L ＠ d) ∷ q) = nE q
-nE ((E ＠ d) ∷ q) = 1 + nE q
-nE ((R ＠ d) ∷ q) = nE q
-nE ((S ＠ d) ∷ q) = nE q
+unfoldable pub countE : List Step → ℕ
+countE [] = 0
+countE ((C ＠ d) ∷ q) = countE q
+countE ((L ＠ d) ∷ q) = countE q
+countE ((E ＠ d) ∷ q) = 1 + countE q
+countE ((R ＠ d) ∷ q) = countE q
+countE ((S ＠ d) ∷ q) = countE q
 
-unfoldable pub nS : List Step → ℕ
-nS [] = 0
-nS ((C ＠ d) ∷ q) = nS q
-nS ((L ＠ d) ∷ q) = nS q
-nS ((E ＠ d) ∷ q) = nS q
-nS ((R ＠ d) ∷ q) = nS q
-nS ((S ＠ d) ∷ q) = 1 + nS q
+unfoldable pub countS : List Step → ℕ
+countS [] = 0
+countS ((C ＠ d) ∷ q) = countS q
+countS ((L ＠ d) ∷ q) = countS q
+countS ((E ＠ d) ∷ q) = countS q
+countS ((R ＠ d) ∷ q) = countS q
+countS ((S ＠ d) ∷ q) = 1 + countS q
 
 module _ (lab opp : ℕ → ℕ) (g : ℕ) where
   -- E7, the inequality
-  pub loose : {pre q : List Step} {st : List ℕ} {x : ℕ} → Run lab opp g pre st x q → nE q ≤ nS q + length st + 1
-  unfolding nE nS
-  loose (goC h z) = loose z
-  loose (goL h z) = loose z
-  loose (goR h z) = loose z
-  loose (goS h z) = let i = loose z in omega arith
-  loose (goE h d u z) = let i = loose z in let j = drop-len d in omega arith
+  pub loose : {pre q : List Step} {st : List ℕ} {x : ℕ} → Run lab opp g pre st x q → countE q ≤ countS q + length st + 1
+  unfolding countE countS
+  loose (new h z) = loose z
+  loose (left-done h z) = loose z
+  loose (right-done h z) = loose z
+  loose (split h z) = let i = loose z in omega arith
+  loose (resume h d u z) = let i = loose z in let j = drop-len d in omega arith
   loose (end h d) = omega arith
 
   -- E7 (i): no left is skipped, so this is the walk of document 01
-  pub tight : {pre q : List Step} {st : List ℕ} {x : ℕ} → Run lab opp g pre st x q → nE q ≡ nS q + length st + 1
+  pub tight : {pre q : List Step} {st : List ℕ} {x : ℕ} → Run lab opp g pre st x q → countE q ≡ countS q + length st + 1
     → (n : ℕ) → length q ≤ n → walk lab opp g n pre st x ≡ q
-  unfolding nE nS walk
-  tight (goC h z) t zero b = absurd (omega arith)
-  tight (goC h z) t (suc n) b = rw (h, walk, tight z t n (omega arith))
-  tight (goL h z) t zero b = absurd (omega arith)
-  tight (goL h z) t (suc n) b = rw (h, walk, tight z t n (omega arith))
-  tight (goR h z) t zero b = absurd (omega arith)
-  tight (goR h z) t (suc n) b = rw (h, walk, tight z t n (omega arith))
-  tight (goS h z) t zero b = absurd (omega arith)
-  tight (goS h z) t (suc n) b = rw (h, walk, tight z (omega arith) n (omega arith))
-  tight (goE h d u z) t zero b = absurd (omega arith)
-  tight (goE h d u z) t (suc n) b =
+  unfolding countE countS walk
+  tight (new h z) t zero b = absurd (omega arith)
+  tight (new h z) t (suc n) b = rw (h, walk, tight z t n (omega arith))
+  tight (left-done h z) t zero b = absurd (omega arith)
+  tight (left-done h z) t (suc n) b = rw (h, walk, tight z t n (omega arith))
+  tight (right-done h z) t zero b = absurd (omega arith)
+  tight (right-done h z) t (suc n) b = rw (h, walk, tight z t n (omega arith))
+  tight (split h z) t zero b = absurd (omega arith)
+  tight (split h z) t (suc n) b = rw (h, walk, tight z (omega arith) n (omega arith))
+  tight (resume h d u z) t zero b = absurd (omega arith)
+  tight (resume h d u z) t (suc n) b =
       let i = loose z in
       let j = drop-len d in
       let k = drop-same d (omega arith) in
@@ -85,48 +85,48 @@ module _ (lab opp : ℕ → ℕ) (g : ℕ) where
       let k = drop-same d (omega arith) in
       rw (h, walk, k)
 
-  abbrev pub Lk : Word → ℕ → List Step → Type 0
-  Lk wE x q = q ≡ (E ＠ x) ∷ []
-  Lk (wC w) x q = (q1 : List Step) × (q ≡ (C ＠ x) ∷ q1) × Lk w (opp (next x)) q1
-  Lk (wL w) x q = (q1 : List Step) × (q ≡ (L ＠ x) ∷ q1) × Lk w (opp (next x)) q1
-  Lk (wR w) x q = (q1 : List Step) × (q ≡ (R ＠ x) ∷ q1) × Lk w (opp (previous x)) q1
-  Lk (wS a b) x q = (q1 : List Step) × (q2 : List Step) × (q ≡ (S ＠ x) ∷ (q1 ++ q2)) × Lk a (opp (next x)) q1 × Lk b (opp (previous x)) q2
+  abbrev pub Follows : Word → ℕ → List Step → Type 0
+  Follows wE x q = q ≡ (E ＠ x) ∷ []
+  Follows (wC w) x q = (q₁ : List Step) × (q ≡ (C ＠ x) ∷ q₁) × Follows w (opp (next x)) q₁
+  Follows (wL w) x q = (q₁ : List Step) × (q ≡ (L ＠ x) ∷ q₁) × Follows w (opp (next x)) q₁
+  Follows (wR w) x q = (q₁ : List Step) × (q ≡ (R ＠ x) ∷ q₁) × Follows w (opp (previous x)) q₁
+  Follows (wS a b) x q = (q₁ : List Step) × (q₂ : List Step) × (q ≡ (S ＠ x) ∷ (q₁ ++ q₂)) × Follows a (opp (next x)) q₁ × Follows b (opp (previous x)) q₂
 
-  abbrev pub LkF : List Word → List ℕ → List Step → Type 0
-  LkF [] [] q = q ≡ []
-  LkF [] (x ∷ xs) q = ⊥
-  LkF (w ∷ ws) [] q = ⊥
-  LkF (w ∷ ws) (x ∷ xs) q = (q1 : List Step) × (q2 : List Step) × (q ≡ q1 ++ q2) × Lk w x q1 × LkF ws xs q2
+  abbrev pub FollowAll : List Word → List ℕ → List Step → Type 0
+  FollowAll [] [] q = q ≡ []
+  FollowAll [] (x ∷ xs) q = ⊥
+  FollowAll (w ∷ ws) [] q = ⊥
+  FollowAll (w ∷ ws) (x ∷ xs) q = (q₁ : List Step) × (q₂ : List Step) × (q ≡ q₁ ++ q₂) × Follows w x q₁ × FollowAll ws xs q₂
 
   abbrev pub Forest : ℕ → List ℕ → List Step → Type 0
-  Forest x st q = (w : Word) × (ws : List Word) × LkF (w ∷ ws) (x ∷ st) q
+  Forest x st q = (w : Word) × (ws : List Word) × FollowAll (w ∷ ws) (x ∷ st) q
 
   -- one letter in front of a forest
   front-C : (x : ℕ) (st : List ℕ) (q : List Step) → Forest (opp (next x)) st q → Forest x st ((C ＠ x) ∷ q)
-  front-C x st q (w, ws, (q1, q2, h, k, m)) = (wC w, ws, ((C ＠ x) ∷ q1, q2, ap (λ (y : List Step). (C ＠ x) ∷ y) h, (q1, refl, k), m))
+  front-C x st q (w, ws, (q₁, q₂, h, k, m)) = (wC w, ws, ((C ＠ x) ∷ q₁, q₂, ap (λ (y : List Step). (C ＠ x) ∷ y) h, (q₁, refl, k), m))
 
   front-L : (x : ℕ) (st : List ℕ) (q : List Step) → Forest (opp (next x)) st q → Forest x st ((L ＠ x) ∷ q)
-  front-L x st q (w, ws, (q1, q2, h, k, m)) = (wL w, ws, ((L ＠ x) ∷ q1, q2, ap (λ (y : List Step). (L ＠ x) ∷ y) h, (q1, refl, k), m))
+  front-L x st q (w, ws, (q₁, q₂, h, k, m)) = (wL w, ws, ((L ＠ x) ∷ q₁, q₂, ap (λ (y : List Step). (L ＠ x) ∷ y) h, (q₁, refl, k), m))
 
   front-R : (x : ℕ) (st : List ℕ) (q : List Step) → Forest (opp (previous x)) st q → Forest x st ((R ＠ x) ∷ q)
-  front-R x st q (w, ws, (q1, q2, h, k, m)) = (wR w, ws, ((R ＠ x) ∷ q1, q2, ap (λ (y : List Step). (R ＠ x) ∷ y) h, (q1, refl, k), m))
+  front-R x st q (w, ws, (q₁, q₂, h, k, m)) = (wR w, ws, ((R ＠ x) ∷ q₁, q₂, ap (λ (y : List Step). (R ＠ x) ∷ y) h, (q₁, refl, k), m))
 
   front-S : (x : ℕ) (st : List ℕ) (q : List Step) → Forest (opp (next x)) (opp (previous x) ∷ st) q → Forest x st ((S ＠ x) ∷ q)
-  front-S x st q (a, [], (q1, q2, h, k, m)) = absurd m
-  front-S x st q (a, b ∷ ws, (q1, q2, h, k, (q3, q4, o, u, v))) =
-      (wS a b, ws, ((S ＠ x) ∷ (q1 ++ q3), q4, ap (λ (y : List Step). (S ＠ x) ∷ y) (h ∙ ap (λ (y : List Step). q1 ++ y) o ∙ sym (append-assoc q1 q3 q4)), (q1, q3, refl, k, u), v))
+  front-S x st q (a, [], (q₁, q₂, h, k, m)) = absurd m
+  front-S x st q (a, b ∷ ws, (q₁, q₂, h, k, (q₃, q₄, o, u, v))) =
+      (wS a b, ws, ((S ＠ x) ∷ (q₁ ++ q₃), q₄, ap (λ (y : List Step). (S ＠ x) ∷ y) (h ∙ ap (λ (y : List Step). q₁ ++ y) o ∙ sym (append-assoc q₁ q₃ q₄)), (q₁, q₃, refl, k, u), v))
 
   front-E : (x d : ℕ) (st : List ℕ) (q : List Step) → Forest d st q → Forest x (d ∷ st) ((E ＠ x) ∷ q)
   front-E x d st q (w, ws, m) = (wE, w ∷ ws, ((E ＠ x) ∷ [], q, refl, refl, m))
 
   -- E7 (iii)
-  pub forest : {pre q : List Step} {st : List ℕ} {x : ℕ} → Run lab opp g pre st x q → nE q ≡ nS q + length st + 1 → Forest x st q
-  unfolding nE nS
-  forest (goC {st = st} {x = x} {q = q} h z) t = front-C x st q (forest z t)
-  forest (goL {st = st} {x = x} {q = q} h z) t = front-L x st q (forest z t)
-  forest (goR {st = st} {x = x} {q = q} h z) t = front-R x st q (forest z t)
-  forest (goS {st = st} {x = x} {q = q} h z) t = front-S x st q (forest z (omega arith))
-  forest (goE {st = st} {rest = rest} {x = x} {d = d} {q = q} h dr u z) t =
+  pub forest : {pre q : List Step} {st : List ℕ} {x : ℕ} → Run lab opp g pre st x q → countE q ≡ countS q + length st + 1 → Forest x st q
+  unfolding countE countS
+  forest (new {st = st} {x = x} {q = q} h z) t = front-C x st q (forest z t)
+  forest (left-done {st = st} {x = x} {q = q} h z) t = front-L x st q (forest z t)
+  forest (right-done {st = st} {x = x} {q = q} h z) t = front-R x st q (forest z t)
+  forest (split {st = st} {x = x} {q = q} h z) t = front-S x st q (forest z (omega arith))
+  forest (resume {st = st} {rest = rest} {x = x} {d = d} {q = q} h dr u z) t =
       let i = loose z in
       let j = drop-len dr in
       let k = drop-same dr (omega arith) in

@@ -11,8 +11,8 @@ module _ {lab opp : ℕ → ℕ} {t v g : ℕ} (m : Sphere lab opp t v g) where
   glued-left x = ap (λ (y : ℕ). lab (previous y)) (sym (m .paired x)) ∙ sym (m .glued (opp x))
 
   -- rule 12: two corners of a triangle with one label are one
-  pub alone : (x y : ℕ) → y < 3 * t → triangle x ≡ triangle y → lab x ≡ lab y → x ≡ y
-  alone x y h q l = go (three x y q)
+  pub one-corner : (x y : ℕ) → y < 3 * t → triangle x ≡ triangle y → lab x ≡ lab y → x ≡ y
+  one-corner x y h q l = go (three x y q)
     where
       go : _⊎_ (x ≡ y) (_⊎_ (x ≡ next y) (x ≡ previous y)) → x ≡ y
       go (inl u) = u
@@ -20,8 +20,8 @@ module _ {lab opp : ℕ → ℕ} {t v g : ℕ} (m : Sphere lab opp t v g) where
       go (inr (inr u)) = absurd (m .apart (previous y) (previous-low t y h) (ap lab (sym u) ∙ l ∙ ap lab (sym (next-previous y))))
 
   -- E0
-  pub self : (x : ℕ) → x < 3 * t → triangle (opp x) ≢ triangle x
-  self x h q = go (three (opp x) x q)
+  pub other-triangle : (x : ℕ) → x < 3 * t → triangle (opp x) ≢ triangle x
+  other-triangle x h q = go (three (opp x) x q)
     where
       go : _⊎_ (opp x ≡ x) (_⊎_ (opp x ≡ next x) (opp x ≡ previous x)) → ⊥
       go (inl u) = m .moves x h u

@@ -14,7 +14,7 @@ use Rattle.theory.proofs.Index.{Ahead, Mark, Side, mark-longer}
 use Rattle.theory.proofs.Injections.{length-vals, vals, vals-off, vals-once}
 use Rattle.theory.proofs.LetterLaws.{letters-differ}
 use Rattle.theory.proofs.Phi.{mate, mate-mate}
-use Rattle.theory.proofs.Runs.{Lk, LkF, forest, loose, nE, nS, tight}
+use Rattle.theory.proofs.Runs.{FollowAll, Follows, countE, countS, forest, loose, tight}
 use Rattle.theory.proofs.Times.{later}
 use Rattle.theory.proofs.Whole.{Walked, ahead0, cornerOf, letterOf, steps, steps-length, the-run, walked}
 use Rattle.theory.proofs.WordLaws.{width-news}
@@ -48,8 +48,8 @@ module _ {lab opp : ℕ → ℕ} {t v g : ℕ} (mesh : Sphere lab opp t v g) whe
 
   module _ (sp : ℕ → Letter) (co : ℕ → ℕ) where
     counts : (q : List Step) (k : ℕ) → Ahead mesh sp co k q
-        → length (downs sp k (length q)) + 2 * length (Tips q) + 2 * nS q ≡ length (ups sp k (length q)) + length q + 2 * nE q
-    unfolding tips nS nE upAt downAt ups downs
+        → length (downs sp k (length q)) + 2 * length (Tips q) + 2 * countS q ≡ length (ups sp k (length q)) + length q + 2 * countE q
+    unfolding tips countS countE upAt downAt ups downs
     counts [] k h = refl
     counts ((C ＠ d) ∷ q) k h = let i = counts q (suc k) (h .2) in let a = ups-len sp k (length q) C (h .0) in let b = downs-len sp k (length q) C (h .0) in omega arith
     counts ((L ＠ d) ∷ q) k h = let i = counts q (suc k) (h .2) in let a = ups-len sp k (length q) L (h .0) in let b = downs-len sp k (length q) L (h .0) in omega arith
@@ -117,7 +117,7 @@ module _ {lab opp : ℕ → ℕ} {t v g : ℕ} (mesh : Sphere lab opp t v g) whe
             go (no l) = let a = vals-off (λ i. i) y v (λ i o e. omega arith) in omega arith
 
     -- E5 in letters
-    pub enough : Walked mesh sp co → (q : List Step) → Ahead mesh sp co 0 q → (m : ℕ) → t ≡ suc m → length q ≡ t → nS q + 1 ≤ nE q
+    pub enough : Walked mesh sp co → (q : List Step) → Ahead mesh sp co 0 q → (m : ℕ) → t ≡ suc m → length q ≡ t → countS q + 1 ≤ countE q
     unfolding downs
     enough w q h m e n =
         let a = euler sp m (mate w) (mate-mate w) (later w m e) in
@@ -131,7 +131,7 @@ module _ {lab opp : ℕ → ℕ} {t v g : ℕ} (mesh : Sphere lab opp t v g) whe
         omega arith
 
   -- E7: equality
-  pub balanced : nE (steps mesh) ≡ nS (steps mesh) + length {A = ℕ} [] + 1
+  pub balanced : countE (steps mesh) ≡ countS (steps mesh) + length {A = ℕ} [] + 1
   balanced =
       let q = steps mesh in
       let n = steps-length mesh in
@@ -145,12 +145,12 @@ module _ {lab opp : ℕ → ℕ} {t v g : ℕ} (mesh : Sphere lab opp t v g) whe
   literal = let n = steps-length mesh in tight lab opp g (the-run mesh) balanced t (omega arith)
 
   -- its steps follow a word
-  pub word-of : (w : Word) × Lk lab opp g w g (steps mesh)
+  pub word-of : (w : Word) × Follows lab opp g w g (steps mesh)
   word-of = go (forest lab opp g (the-run mesh) balanced)
     where
-      go : (w : Word) × (ws : List Word) × LkF lab opp g (w ∷ ws) (g ∷ []) (steps mesh) → (w : Word) × Lk lab opp g w g (steps mesh)
-      go (w, [], (q1, q2, h, k, n)) = (w, subst (Lk lab opp g w g) (sym (h ∙ ap (λ (y : List Step). q1 ++ y) n ∙ append-nil q1)) k)
-      go (w, x ∷ ws, (q1, q2, h, k, n)) = absurd n
+      go : (w : Word) × (ws : List Word) × FollowAll lab opp g (w ∷ ws) (g ∷ []) (steps mesh) → (w : Word) × Follows lab opp g w g (steps mesh)
+      go (w, [], (q₁, q₂, h, k, n)) = (w, subst (Follows lab opp g w g) (sym (h ∙ ap (λ (y : List Step). q₁ ++ y) n ∙ append-nil q₁)) k)
+      go (w, x ∷ ws, (q₁, q₂, h, k, n)) = absurd n
 
   -- a word of width 2 and size t has v - 2 Cs
   pub vertex-count : (x : Word) → Sound x → width x ≡ 2 → size x ≡ t → 2 + news x ≡ v

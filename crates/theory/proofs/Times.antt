@@ -11,7 +11,7 @@ use Rattle.theory.proofs.Counting.{bit-off, bit-one, count, count-appen
 use Rattle.theory.proofs.Index.{Earlier, Side}
 use Rattle.theory.proofs.Phi.{carry, carry-left, carry-mate, carry-right, carry-tip, carry-triangle, mate, mate-at, mate-low, time-inj}
 use Rattle.theory.proofs.Ring.{fresh}
-use Rattle.theory.proofs.SphereLaws.{self}
+use Rattle.theory.proofs.SphereLaws.{other-triangle}
 use Rattle.theory.proofs.Whole.{Walked}
 use Rattle.theory.specs.Corner.{inside, next, previous, triangle}
 use Rattle.theory.specs.Mesh.{Sphere}
@@ -59,22 +59,22 @@ ups-in sp x (suc n) k h = go (decLt 0 (count x (upAt (sp k) k))) (λ z. ups-in s
     go (no z) f = let a = count-append x (upAt (sp k) k) (ups sp (k + 1) n) in let r = f (omega arith) in (r .0, omega arith, r .2)
 
 module _ {lab opp : ℕ → ℕ} {t v g : ℕ} {mesh : Sphere lab opp t v g} {sp : ℕ → Letter} {co : ℕ → ℕ} (w : Walked mesh sp co) where
-  abbrev mt : ℕ → ℕ
-  mt = mate w
+  abbrev mate′ : ℕ → ℕ
+  mate′ = mate w
 
   abbrev Bef : ℕ → ℕ → Type 0
   Bef = Earlier mesh sp co
 
-  earlier-mate : (n x : ℕ) → Bef n (opp (carry co x)) → triangle (mt x) < n
+  earlier-mate : (n x : ℕ) → Bef n (opp (carry co x)) → triangle (mate′ x) < n
   earlier-mate n x (j, h, q) =
-      let a = time-inj w (triangle (mt x)) j (sym (carry-triangle co (mt x)) ∙ ap triangle (carry-mate w x) ∙ q) in
+      let a = time-inj w (triangle (mate′ x)) j (sym (carry-triangle co (mate′ x)) ∙ ap triangle (carry-mate w x) ∙ q) in
       omega arith
 
-  later-mate : (n x : ℕ) → (Bef n (opp (carry co x)) → ⊥) → n ≤ triangle (mt x)
-  later-mate n x h = go (decLt (triangle (mt x)) n)
+  later-mate : (n x : ℕ) → (Bef n (opp (carry co x)) → ⊥) → n ≤ triangle (mate′ x)
+  later-mate n x h = go (decLt (triangle (mate′ x)) n)
     where
-      go : Dec (triangle (mt x) < n) → n ≤ triangle (mt x)
-      go (yes l) = absurd (h (triangle (mt x), l, ap triangle (sym (carry-mate w x)) ∙ carry-triangle co (mt x)))
+      go : Dec (triangle (mate′ x) < n) → n ≤ triangle (mate′ x)
+      go (yes l) = absurd (h (triangle (mate′ x), l, ap triangle (sym (carry-mate w x)) ∙ carry-triangle co (mate′ x)))
       go (no l) = omega arith
 
   -- the letter's facts at step k
@@ -82,7 +82,7 @@ module _ {lab opp : ℕ → ℕ} {t v g : ℕ} {mesh : Sphere lab opp t v g} {sp
   side-at k a h q = subst (Side mesh sp co t k) q (w .facts k h .1)
 
   -- the step after an up right side
-  pub up-right : (k : ℕ) → k < t → UpR (sp k) → (suc k < t) × (mt (3 * k + 1) ≡ 3 * suc k)
+  pub up-right : (k : ℕ) → k < t → UpR (sp k) → (suc k < t) × (mate′ (3 * k + 1) ≡ 3 * suc k)
   up-right k h u = let z = go (sp k) (w .facts k h .1) u in (z .0, mate-at w (3 * k + 1) (3 * suc k) (ap opp (carry-left co k) ∙ sym (z .1) ∙ sym (carry-tip co (suc k))))
     where
       go : (a : Letter) → Side mesh sp co t k a → UpR a → (suc k < t) × (co (suc k) ≡ opp (next (co k)))
@@ -92,14 +92,14 @@ module _ {lab opp : ℕ → ℕ} {t v g : ℕ} {mesh : Sphere lab opp t v g} {sp
       go R s u = absurd u
       go S s u = (s .2, s .3)
 
-  pub up-left : (k : ℕ) → k < t → sp k ≡ R → (suc k < t) × (mt (3 * k + 2) ≡ 3 * suc k)
+  pub up-left : (k : ℕ) → k < t → sp k ≡ R → (suc k < t) × (mate′ (3 * k + 2) ≡ 3 * suc k)
   up-left k h q = let z = side-at k R h q in (z .2, mate-at w (3 * k + 2) (3 * suc k) (ap opp (carry-right co k) ∙ sym (z .3) ∙ sym (carry-tip co (suc k))))
 
-  later-S : (k : ℕ) → k < t → sp k ≡ S → k < triangle (mt (3 * k + 2))
+  later-S : (k : ℕ) → k < t → sp k ≡ S → k < triangle (mate′ (3 * k + 2))
   later-S k h q = let a = later-mate (suc k) (3 * k + 2) (λ b. side-at k S h q .1 (rw (carry-right co k) at b)) in omega arith
 
   -- the left neighbour of a C holds its tip
-  later-C : (k : ℕ) → k < t → sp k ≡ C → k < triangle (mt (3 * k + 2))
+  later-C : (k : ℕ) → k < t → sp k ≡ C → k < triangle (mate′ (3 * k + 2))
   later-C k h q = let a = later-mate (suc k) (3 * k + 2) (λ b. bad (rw (carry-right co k) at b)) in omega arith
     where
       bad : Bef (suc k) (opp (previous (co k))) → ⊥
@@ -109,20 +109,20 @@ module _ {lab opp : ℕ → ℕ} {t v g : ℕ} {mesh : Sphere lab opp t v g} {sp
           go (yes z) = fresh mesh sp co t (w .facts) k (previous (opp (previous (co k)))) h q (j, z, triangle-previous (opp (previous (co k))) ∙ e) (sym (mesh .glued (previous (co k))) ∙ ap lab (next-previous (co k)))
           go (no z) =
               let same : j ≡ k = omega arith in
-              self mesh (previous (co k)) (previous-low t (co k) (w .facts k h .0 .0)) (e ∙ ap (λ (i : ℕ). triangle (co i)) same ∙ sym (triangle-previous (co k)))
+              other-triangle mesh (previous (co k)) (previous-low t (co k) (w .facts k h .0 .0)) (e ∙ ap (λ (i : ℕ). triangle (co i)) same ∙ sym (triangle-previous (co k)))
 
-  later-0 : 0 < t → 0 < triangle (mt 0)
+  later-0 : 0 < t → 0 < triangle (mate′ 0)
   later-0 h = let a = later-mate 1 0 bad in omega arith
     where
       bad : Bef 1 (opp (carry co 0)) → ⊥
       bad (j, l, e) =
           let z : j ≡ 0 = omega arith in
-          self mesh (co 0) (w .facts 0 h .0 .0) (ap (λ (i : ℕ). triangle (opp i)) (sym (carry-tip co 0)) ∙ e ∙ ap (λ (i : ℕ). triangle (co i)) z)
+          other-triangle mesh (co 0) (w .facts 0 h .0 .0) (ap (λ (i : ℕ). triangle (opp i)) (sym (carry-tip co 0)) ∙ e ∙ ap (λ (i : ℕ). triangle (co i)) z)
 
-  pub bottom : (k : ℕ) → 0 < k → k < t → triangle (mt (3 * k)) < k
+  pub bottom : (k : ℕ) → 0 < k → k < t → triangle (mate′ (3 * k)) < k
   bottom k p h = earlier-mate k (3 * k) (rw (carry-tip co k) (w .facts k h .0 .2 p))
 
-  pub down-right : (k : ℕ) → k < t → (UpR (sp k) → ⊥) → triangle (mt (3 * k + 1)) < k
+  pub down-right : (k : ℕ) → k < t → (UpR (sp k) → ⊥) → triangle (mate′ (3 * k + 1)) < k
   down-right k h n = earlier-mate k (3 * k + 1) (rw (carry-left co k) (go (sp k) (w .facts k h .1) n))
     where
       go : (a : Letter) → Side mesh sp co t k a → (UpR a → ⊥) → Bef k (opp (next (co k)))
@@ -132,7 +132,7 @@ module _ {lab opp : ℕ → ℕ} {t v g : ℕ} {mesh : Sphere lab opp t v g} {sp
       go R s n = s .1
       go S s n = absurd (n tt)
 
-  pub down-left : (k : ℕ) → k < t → (UpL (sp k) → ⊥) → triangle (mt (3 * k + 2)) < k
+  pub down-left : (k : ℕ) → k < t → (UpL (sp k) → ⊥) → triangle (mate′ (3 * k + 2)) < k
   down-left k h n = earlier-mate k (3 * k + 2) (rw (carry-right co k) (go (sp k) (w .facts k h .1) n))
     where
       go : (a : Letter) → Side mesh sp co t k a → (UpL a → ⊥) → Bef k (opp (previous (co k)))
@@ -142,7 +142,7 @@ module _ {lab opp : ℕ → ℕ} {t v g : ℕ} {mesh : Sphere lab opp t v g} {sp
       go R s n = absurd (n tt)
       go S s n = absurd (n tt)
 
-  later-left : (k : ℕ) (a : Letter) → k < t → sp k ≡ a → UpL a → k < triangle (mt (3 * k + 2))
+  later-left : (k : ℕ) (a : Letter) → k < t → sp k ≡ a → UpL a → k < triangle (mate′ (3 * k + 2))
   later-left k C h q u = later-C k h q
   later-left k L h q u = absurd u
   later-left k E h q u = absurd u
@@ -150,25 +150,25 @@ module _ {lab opp : ℕ → ℕ} {t v g : ℕ} {mesh : Sphere lab opp t v g} {sp
   later-left k S h q u = later-S k h q
 
   -- E5's hypothesis
-  pub later : (m : ℕ) → t ≡ suc m → (x : ℕ) → 1 ≤ count x (0 ∷ ups sp 0 (suc m)) → (triangle x < triangle (mt x)) × (1 ≤ count (mt x) (tris 0 (suc m)))
+  pub later : (m : ℕ) → t ≡ suc m → (x : ℕ) → 1 ≤ count x (0 ∷ ups sp 0 (suc m)) → (triangle x < triangle (mate′ x)) × (1 ≤ count (mate′ x) (tris 0 (suc m)))
   unfolding count
   later m e x h = go (ℕ-discrete x 0)
     where
-      inside : x < 3 * t → 1 ≤ count (mt x) (tris 0 (suc m))
-      inside l = let a = mate-low w x l in tris-in (mt x) (suc m) 0 (omega arith) (omega arith)
+      inside : x < 3 * t → 1 ≤ count (mate′ x) (tris 0 (suc m))
+      inside l = let a = mate-low w x l in tris-in (mate′ x) (suc m) 0 (omega arith) (omega arith)
 
-      side : (j : ℕ) → j < 0 + suc m → _⊎_ ((x ≡ 3 * j + 1) × UpR (sp j)) ((x ≡ 3 * j + 2) × UpL (sp j)) → (triangle x < triangle (mt x)) × (1 ≤ count (mt x) (tris 0 (suc m)))
+      side : (j : ℕ) → j < 0 + suc m → _⊎_ ((x ≡ 3 * j + 1) × UpR (sp j)) ((x ≡ 3 * j + 2) × UpL (sp j)) → (triangle x < triangle (mate′ x)) × (1 ≤ count (mate′ x) (tris 0 (suc m)))
       side j l (inl (q, u)) =
           let z = up-right j (omega arith) u in
           let a = ap triangle q ∙ triangle-left j in
-          let b = ap (λ (i : ℕ). triangle (mt i)) q ∙ ap triangle (z .1) ∙ triangle-tip (suc j) in
+          let b = ap (λ (i : ℕ). triangle (mate′ i)) q ∙ ap triangle (z .1) ∙ triangle-tip (suc j) in
           (omega arith, inside (omega arith))
       side j l (inr (q, u)) =
           let z = later-left j (sp j) (omega arith) refl u in
           let a = ap triangle q ∙ triangle-right j in
-          let b = ap (λ (i : ℕ). triangle (mt i)) q in
+          let b = ap (λ (i : ℕ). triangle (mate′ i)) q in
           (omega arith, inside (omega arith))
 
-      go : Dec (x ≡ 0) → (triangle x < triangle (mt x)) × (1 ≤ count (mt x) (tris 0 (suc m)))
-      go (yes q) = let a = later-0 (omega arith) in let b = ap triangle q ∙ triangle-tip 0 in let d = ap (λ (i : ℕ). triangle (mt i)) q in (omega arith, inside (omega arith))
+      go : Dec (x ≡ 0) → (triangle x < triangle (mate′ x)) × (1 ≤ count (mate′ x) (tris 0 (suc m)))
+      go (yes q) = let a = later-0 (omega arith) in let b = ap triangle q ∙ triangle-tip 0 in let d = ap (λ (i : ℕ). triangle (mate′ i)) q in (omega arith, inside (omega arith))
       go (no q) = let z = bit-off x 0 q in let r = ups-in sp x (suc m) 0 (omega arith) in side (r .0) (r .1) (up-at (sp (r .0)) x (r .0) (r .2))
