@@ -11,10 +11,10 @@ use lib.ListN.{length}
 use borrow.Author.Tests.{eqb-true}
 use Rattle.theory.proofs.CornerLaws.{next-low, previous-low, triangle-next, triangle-previous}
 use Rattle.theory.proofs.Each.{EachN, eachN-map}
-use Rattle.theory.proofs.Live.{In, Inv, Says, kept-C, kept-E, kept-L, kept-R, kept-S, rest-ends, says, says-C, says-E, says-L, says-R, says-S}
 use Rattle.theory.proofs.Runs.{Drop, Run, end, left-done, new, resume, right-done, skip, split, stay}
 use Rattle.theory.proofs.SphereLaws.{other-triangle}
 use Rattle.theory.proofs.TestLaws.{eqb-same, or-cases, or-right}
+use Rattle.theory.proofs.WalkState.{In, Says, State, dropped-each, kept-C, kept-E, kept-L, kept-R, kept-S, says, says-C, says-E, says-L, says-R, says-S}
 use Rattle.theory.specs.Corner.{next, previous, triangle}
 use Rattle.theory.specs.Lists.{mem}
 use Rattle.theory.specs.Mesh.{Sphere}
@@ -155,14 +155,14 @@ module _ {lab opp : ℕ → ℕ} {t v g : ℕ} (mesh : Sphere lab opp t v g) (sp
   headed (resume h d u z) k a = (a .1, omega arith)
   headed (end h d) k a = (a .1, omega arith)
 
-  based : (pre : List Step) (st : List ℕ) (x : ℕ) → Inv mesh pre st x → Holds pre → co (length pre) ≡ x → (0 < length pre → Earlier (length pre) (opp x)) → Base (length pre)
+  based : (pre : List Step) (st : List ℕ) (x : ℕ) → State mesh pre st x → Holds pre → co (length pre) ≡ x → (0 < length pre → Earlier (length pre) (opp x)) → Base (length pre)
   based pre st x i h q b = (
-    rw q (i .1 .2),
-    (λ w. let a : seen pre x ≡ true = before-seen pre h x (rw q at w) in let f = i .3 in let z : _≡_ {A = ℕ} 0 1 = cc in omega arith),
+    rw q (i .ends .2),
+    (λ w. let a : seen pre x ≡ true = before-seen pre h x (rw q at w) in let f = i .unseen in let z : _≡_ {A = ℕ} 0 1 = cc in omega arith),
     (λ p. rw q (b p)),
-    (λ d w. in-mark pre h (lab d) (i .0 d (before-seen pre h d w))),
-    rw q (in-mark pre h (lab (next x)) (i .1 .0)),
-    rw q (in-mark pre h (lab (previous x)) (i .1 .1)),
+    (λ d w. in-mark pre h (lab d) (i .marked d (before-seen pre h d w))),
+    rw q (in-mark pre h (lab (next x)) (i .ends .0)),
+    rw q (in-mark pre h (lab (previous x)) (i .ends .1)),
   )
 
   -- a neighbour that counts as seen was so before: no triangle is its own neighbour
@@ -222,41 +222,41 @@ module _ {lab opp : ℕ → ℕ} {t v g : ℕ} (mesh : Sphere lab opp t v g) (sp
   Under pre x = 0 < length pre → Earlier (length pre) (opp x)
 
   -- the facts of the step at x, in front of those of the later steps
-  more : (m : ℕ) (a : Letter) (pre : List Step) (st : List ℕ) (x : ℕ) → Inv mesh pre st x → Holds pre → (sp (length pre) ≡ a) × (co (length pre) ≡ x) → Under pre x → Side m (length pre) a → All m (suc (length pre)) → All m (length pre)
+  more : (m : ℕ) (a : Letter) (pre : List Step) (st : List ℕ) (x : ℕ) → State mesh pre st x → Holds pre → (sp (length pre) ≡ a) × (co (length pre) ≡ x) → Under pre x → Side m (length pre) a → All m (suc (length pre)) → All m (length pre)
   more m a pre st x i ho z b s f = first m (length pre) (based pre st x i ho (z .1) b, subst (Side m (length pre)) (sym (z .0)) s) f
 
   -- E3: every step from here on has its facts, and every waiting left is visited in the end
-  pub index : (m : ℕ) {pre q : List Step} {st : List ℕ} {x : ℕ} → Run′ pre st x q → Inv mesh pre st x → Holds pre → Ahead (length pre) q → length pre + length q ≡ m
+  pub index : (m : ℕ) {pre q : List Step} {st : List ℕ} {x : ℕ} → Run′ pre st x q → State mesh pre st x → Holds pre → Ahead (length pre) q → length pre + length q ≡ m
       → Under pre x → EachN (Backed (length pre)) st → All m (length pre) × EachN (Earlier m) st
   index m (new {pre = pre} {st = st} {x = x} h z) i ho a n b ws =
       let w = says mesh pre x C h in
       let hd = headed z (suc (length pre)) (a .2) in
-      let r = index m z (kept-C mesh pre st x i w) (a .0, a .1, ho) (a .2) (omega arith) (λ u. under (length pre) x (next x) (a .1) (triangle-next x)) (kept-backed (length pre) st ws) in
-      (more m C pre st x i ho (a .0, a .1) b (side-C m pre x (ho, a .1, i .1 .2) w (omega arith) (hd .0)) (r .0), r .1)
+      let r = index m z (kept-C mesh i w) (a .0, a .1, ho) (a .2) (omega arith) (λ u. under (length pre) x (next x) (a .1) (triangle-next x)) (kept-backed (length pre) st ws) in
+      (more m C pre st x i ho (a .0, a .1) b (side-C m pre x (ho, a .1, i .ends .2) w (omega arith) (hd .0)) (r .0), r .1)
   index m (left-done {pre = pre} {st = st} {x = x} h z) i ho a n b ws =
       let w = says mesh pre x L h in
       let hd = headed z (suc (length pre)) (a .2) in
-      let r = index m z (kept-L mesh pre st x i w) (a .0, a .1, ho) (a .2) (omega arith) (λ u. under (length pre) x (next x) (a .1) (triangle-next x)) (kept-backed (length pre) st ws) in
-      (more m L pre st x i ho (a .0, a .1) b (side-L m pre x (ho, a .1, i .1 .2) w (omega arith) (hd .0)) (r .0), r .1)
+      let r = index m z (kept-L mesh i w) (a .0, a .1, ho) (a .2) (omega arith) (λ u. under (length pre) x (next x) (a .1) (triangle-next x)) (kept-backed (length pre) st ws) in
+      (more m L pre st x i ho (a .0, a .1) b (side-L m pre x (ho, a .1, i .ends .2) w (omega arith) (hd .0)) (r .0), r .1)
   index m (right-done {pre = pre} {st = st} {x = x} h z) i ho a n b ws =
       let w = says mesh pre x R h in
       let hd = headed z (suc (length pre)) (a .2) in
-      let r = index m z (kept-R mesh pre st x i w) (a .0, a .1, ho) (a .2) (omega arith) (λ u. under (length pre) x (previous x) (a .1) (triangle-previous x)) (kept-backed (length pre) st ws) in
-      (more m R pre st x i ho (a .0, a .1) b (side-R m pre x (ho, a .1, i .1 .2) w (omega arith) (hd .0)) (r .0), r .1)
+      let r = index m z (kept-R mesh i w) (a .0, a .1, ho) (a .2) (omega arith) (λ u. under (length pre) x (previous x) (a .1) (triangle-previous x)) (kept-backed (length pre) st ws) in
+      (more m R pre st x i ho (a .0, a .1) b (side-R m pre x (ho, a .1, i .ends .2) w (omega arith) (hd .0)) (r .0), r .1)
   index m (split {pre = pre} {st = st} {x = x} h z) i ho a n b ws =
       let w = says mesh pre x S h in
       let hd = headed z (suc (length pre)) (a .2) in
-      let r = index m z (kept-S mesh pre st x i w) (a .0, a .1, ho) (a .2) (omega arith) (λ u. under (length pre) x (next x) (a .1) (triangle-next x)) (under (length pre) x (previous x) (a .1) (triangle-previous x), kept-backed (length pre) st ws) in
-      (more m S pre st x i ho (a .0, a .1) b (side-S m pre x (ho, a .1, i .1 .2) (a .0) w (omega arith) (hd .0) (r .1 .0)) (r .0), r .1 .1)
+      let r = index m z (kept-S mesh i w) (a .0, a .1, ho) (a .2) (omega arith) (λ u. under (length pre) x (next x) (a .1) (triangle-next x)) (under (length pre) x (previous x) (a .1) (triangle-previous x), kept-backed (length pre) st ws) in
+      (more m S pre st x i ho (a .0, a .1) b (side-S m pre x (ho, a .1, i .ends .2) (a .0) w (omega arith) (hd .0) (r .1 .0)) (r .0), r .1 .1)
   index m (resume {pre = pre} {st = st} {rest = rest} {x = x} {d = d} h dr un z) i ho a n b ws =
       let w = says mesh pre x E h in
       let hd = headed z (suc (length pre)) (a .2) in
-      let backs = rest-ends mesh (Backed (suc (length pre))) dr (kept-backed (length pre) st ws) in
-      let r = index m z (kept-E mesh pre st rest x d i w dr un) (a .0, a .1, ho) (a .2) (omega arith) (λ u. backs .0) (backs .1) in (
-        more m E pre st x i ho (a .0, a .1) b (side-E m pre x (ho, a .1, i .1 .2) w) (r .0),
+      let backs = dropped-each mesh (Backed (suc (length pre))) dr (kept-backed (length pre) st ws) in
+      let r = index m z (kept-E mesh i w dr un) (a .0, a .1, ho) (a .2) (omega arith) (λ u. backs .0) (backs .1) in (
+        more m E pre st x i ho (a .0, a .1) b (side-E m pre x (ho, a .1, i .ends .2) w) (r .0),
         dropped m dr (a .0, a .1, ho) (omega arith) ((suc (length pre), omega arith, ap triangle (sym (hd .0))), r .1),
       )
   index m (end {pre = pre} {st = st} {x = x} h dr) i ho a n b ws = (
-    more m E pre st x i ho (a .0, a .1) b (side-E m pre x (ho, a .1, i .1 .2) (says mesh pre x E h)) (λ k p q. absurd (omega arith)),
+    more m E pre st x i ho (a .0, a .1) b (side-E m pre x (ho, a .1, i .ends .2) (says mesh pre x E h)) (λ k p q. absurd (omega arith)),
     dropped m dr (a .0, a .1, ho) (omega arith) tt,
   )

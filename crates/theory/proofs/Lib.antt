@@ -16,6 +16,7 @@ pub mod Rows
 pub mod TableRows
 pub mod SphereLaws
 pub mod Runs
+pub mod WalkState
 pub mod Live
 pub mod Index
 pub mod Ring

@@ -6,9 +6,10 @@ use native.Mathlib.Nat.{add-zero}
 use native.Mathlib.Omega.{arith}
 use lib.ListN.{List·getD-eq-default, getD, length}
 use Rattle.theory.proofs.Index.{Ahead, Earlier, Fact, headed, index}
-use Rattle.theory.proofs.Live.{begun, started}
+use Rattle.theory.proofs.Live.{begun}
 use Rattle.theory.proofs.Ring.{full, visited}
 use Rattle.theory.proofs.Runs.{Run}
+use Rattle.theory.proofs.WalkState.{started}
 use Rattle.theory.specs.Mesh.{Sphere}
 use Rattle.theory.specs.Walk.{Step, _＠_, cornersOf, lettersOf}
 use Rattle.theory.specs.declared.Letter.{Letter}
