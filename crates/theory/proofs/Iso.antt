@@ -10,7 +10,7 @@ use lib.ListN.{getD, length}
 use borrow.Author.Tests.{eq-eqb, ne-eqb}
 use Rattle.theory.proofs.CornerLaws.{next-low, next-previous, previous-low, previous-next, three, triangle-low, triangle-next, triangle-previous}
 use Rattle.theory.proofs.Each.{EachN}
-use Rattle.theory.proofs.Whole.{cornerOf}
+use Rattle.theory.proofs.WholeRun.{cornerOf}
 use Rattle.theory.specs.Corner.{next, previous, triangle}
 use Rattle.theory.specs.Letter.{byte}
 use Rattle.theory.specs.Lists.{mem}

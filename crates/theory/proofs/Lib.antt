@@ -18,9 +18,10 @@ pub mod SphereLaws
 pub mod Runs
 pub mod WalkState
 pub mod Live
-pub mod Index
-pub mod Ring
-pub mod Whole
+pub mod ByTime
+pub mod Facts
+pub mod Visited
+pub mod WholeRun
 pub mod Phi
 pub mod Count
 pub mod Times

@@ -6,11 +6,11 @@ use native.Mathlib.Nat.{add-zero}
 use native.Mathlib.Numerals.{add-one}
 use native.Mathlib.Omega.{arith}
 use lib.ListN.{length, length-append}
+use Rattle.theory.proofs.ByTime.{Ahead}
 use Rattle.theory.proofs.Chain.{Each, each-append}
-use Rattle.theory.proofs.Index.{Ahead}
 use Rattle.theory.proofs.Phi.{carry, carry-left, carry-right, carry-tip}
 use Rattle.theory.proofs.Runs.{Follows}
-use Rattle.theory.proofs.Whole.{Walked}
+use Rattle.theory.proofs.WholeRun.{Walked}
 use Rattle.theory.specs.Corner.{next, previous}
 use Rattle.theory.specs.Letter.{byte}
 use Rattle.theory.specs.Mesh.{Sphere}
@@ -60,11 +60,11 @@ abbrev pub Faces : (ℕ → ℕ) → (ℕ → ℕ) → ℕ → ℕ → Type 0
 Faces opp co a b = opp (carry co a) ≡ carry co b
 
 module _ {lab opp : ℕ → ℕ} {t v g : ℕ} {mesh : Sphere lab opp t v g} {sp : ℕ → Letter} {co : ℕ → ℕ} (w : Walked mesh sp co) where
-  ahead-left : (k : ℕ) (a b : List Step) → Ahead mesh sp co k (a ++ b) → Ahead mesh sp co k a
+  ahead-left : (k : ℕ) (a b : List Step) → Ahead sp co k (a ++ b) → Ahead sp co k a
   ahead-left k [] b h = tt
   ahead-left k ((x ＠ d) ∷ a) b h = (h .0, h .1, ahead-left (suc k) a b (h .2))
 
-  ahead-right : (k : ℕ) (a b : List Step) → Ahead mesh sp co k (a ++ b) → Ahead mesh sp co (k + length a) b
+  ahead-right : (k : ℕ) (a b : List Step) → Ahead sp co k (a ++ b) → Ahead sp co (k + length a) b
   ahead-right k [] b h = rw (add-zero k) h
   ahead-right k ((x ＠ d) ∷ a) b h = let wE : suc k + length a ≡ k + suc (length a) = omega arith in rw wE at (ahead-right (suc k) a b (h .2))
 
@@ -77,7 +77,7 @@ module _ {lab opp : ℕ → ℕ} {t v g : ℕ} {mesh : Sphere lab opp t v g} {sp
   join-left : (k j x : ℕ) → co k ≡ x → co j ≡ opp (previous x) → Faces opp co (3 * k + 2) (3 * j)
   join-left k j x p q = rw (carry-right co k, carry-tip co j, p) (sym q)
 
-  pub linked : (x : Word) (d k : ℕ) (q : List Step) → Follows lab opp g x d q → Ahead mesh sp co k q → Linked k x d
+  pub linked : (x : Word) (d k : ℕ) (q : List Step) → Follows lab opp g x d q → Ahead sp co k q → Linked k x d
   unfolding links
   linked wE d k q h a = let z = rw h at a in (z .1, z .0, tt)
   linked (wC x) d k q (q₁, h, m) a =

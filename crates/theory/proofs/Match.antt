@@ -17,7 +17,7 @@ use Rattle.theory.proofs.Opens.{cover, length-opens, mates, opens, open
 use Rattle.theory.proofs.Out.{LeftOfC, Outward, SplitLeft, apart-at, fresh-at, out-E, out-L, out-R}
 use Rattle.theory.proofs.Phi.{carry, carry-inj, carry-next, carry-previous}
 use Rattle.theory.proofs.SphereLaws.{glued-left}
-use Rattle.theory.proofs.Whole.{Walked}
+use Rattle.theory.proofs.WholeRun.{Walked}
 use Rattle.theory.proofs.WordLaws.{width-two}
 use Rattle.theory.specs.Corner.{next, previous}
 use Rattle.theory.specs.Lists.{back, front}

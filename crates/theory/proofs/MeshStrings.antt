@@ -19,7 +19,7 @@ use borrow.Author.Tests.{eqb-true}
 use Rattle.theory.proofs.Renumbered.{cornerMap, equal-strings, only-corners, only-vertices, renumbered, same-t, same-v, vertexMap}
 use Rattle.theory.proofs.RoundTrip.{Round, round, round-closes}
 use Rattle.theory.proofs.TestLaws.{and-left, and-right}
-use Rattle.theory.proofs.Whole.{length-corners, length-letters}
+use Rattle.theory.proofs.WholeRun.{length-corners, length-letters}
 use Rattle.theory.specs.Answer.{countOk}
 use Rattle.theory.specs.Corner.{opposite, vertex}
 use Rattle.theory.specs.Mesh.{Accepted, shapeOk}

@@ -9,10 +9,10 @@ use Rattle.theory.proofs.CornerLaws.{Place, at-left, at-right, at-tip, 
 use Rattle.theory.proofs.LetterLaws.{letters-differ}
 use Rattle.theory.proofs.Linked.{Faces, Spells}
 use Rattle.theory.proofs.Phi.{carry, carry-inj, carry-left, carry-low, carry-mate, carry-right, carry-tip, carry-triangle, mate, mate-at, mate-mate}
-use Rattle.theory.proofs.Ring.{fresh}
 use Rattle.theory.proofs.SphereLaws.{one-corner}
 use Rattle.theory.proofs.Times.{UpL, UpR, bottom, down-left, down-right, up-left, up-right}
-use Rattle.theory.proofs.Whole.{Walked}
+use Rattle.theory.proofs.Visited.{fresh}
+use Rattle.theory.proofs.WholeRun.{Walked}
 use Rattle.theory.specs.Corner.{next, triangle}
 use Rattle.theory.specs.Mesh.{Sphere}
 use Rattle.theory.specs.Tables.{links}
@@ -139,7 +139,7 @@ module _ {lab opp : ℕ → ℕ} {t v g : ℕ} {mesh : Sphere lab opp t v g} {sp
       low = in-range k C q (letters-differ C S refl)
 
       go : Dec (triangle y < k) → ⊥
-      go (yes z) = fresh mesh sp co t (w .facts) k (carry co y) low q (triangle y, z, carry-triangle co y) (u ∙ ap lab (carry-tip co k))
+      go (yes z) = fresh mesh (w .facts) k (carry co y) low q (triangle y, z, carry-triangle co y) (u ∙ ap lab (carry-tip co k))
       go (no z) =
           let a = triangle-low (suc k) y (omega arith) in
           let lo : k < t = low in
@@ -150,4 +150,4 @@ module _ {lab opp : ℕ → ℕ} {t v g : ℕ} {mesh : Sphere lab opp t v g} {sp
   pub apart-at : (k : ℕ) → sp k ≡ C → lab (carry co (3 * k + 1)) ≢ lab (carry co (3 * k + 2))
   apart-at k q u =
       let low = in-range k C q (letters-differ C S refl) in
-      mesh .apart (next (co k)) (next-low t (co k) (w .facts k low .0 .0)) (ap lab (sym (carry-left co k)) ∙ u ∙ ap lab (carry-right co k ∙ sym (next-next (co k))))
+      mesh .apart (next (co k)) (next-low t (co k) (w .facts k low .low)) (ap lab (sym (carry-left co k)) ∙ u ∙ ap lab (carry-right co k ∙ sym (next-next (co k))))

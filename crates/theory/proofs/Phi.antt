@@ -8,7 +8,7 @@ use native.Mathlib.Omega.{arith}
 use lib.ListN.{getD}
 use Rattle.theory.proofs.CornerLaws.{by-place, next-left, next-moves, next-next, next-previous, next-right, next-tip, previous-moves, previous-next, three, triangle-high, triangle-left, triangle-low, triangle-next, triangle-previous, triangle-right, triangle-tip}
 use Rattle.theory.proofs.Counting.{pick}
-use Rattle.theory.proofs.Whole.{Walked}
+use Rattle.theory.proofs.WholeRun.{Walked}
 use Rattle.theory.specs.Corner.{next, previous, triangle}
 use Rattle.theory.specs.Mesh.{Sphere}
 use Rattle.theory.specs.Renumber.{byWalk, turned}
@@ -51,11 +51,11 @@ module _ {lab opp : ℕ → ℕ} {t v g : ℕ} {mesh : Sphere lab opp t v g} {sp
   time-inj i j q = go (decLt i t) (decLt j t) (decLt i j) (decLt j i)
     where
       go : Dec (i < t) → Dec (j < t) → Dec (i < j) → Dec (j < i) → i ≡ j
-      go (yes a) (yes b) (yes c) d = absurd (w .facts j b .0 .1 (i, c, sym q))
-      go (yes a) (yes b) (no c) (yes d) = absurd (w .facts i a .0 .1 (j, d, q))
+      go (yes a) (yes b) (yes c) d = absurd (w .facts j b .unmet (i, c, sym q))
+      go (yes a) (yes b) (no c) (yes d) = absurd (w .facts i a .unmet (j, d, q))
       go (yes a) (yes b) (no c) (no d) = omega arith
-      go (yes a) (no b) c d = let x = triangle-low t (co i) (w .facts i a .0 .0) in let y = ap triangle (w .co-end j (omega arith)) ∙ triangle-tip j in absurd (omega arith)
-      go (no a) (yes b) c d = let x = triangle-low t (co j) (w .facts j b .0 .0) in let y = ap triangle (w .co-end i (omega arith)) ∙ triangle-tip i in absurd (omega arith)
+      go (yes a) (no b) c d = let x = triangle-low t (co i) (w .facts i a .low) in let y = ap triangle (w .co-end j (omega arith)) ∙ triangle-tip j in absurd (omega arith)
+      go (no a) (yes b) c d = let x = triangle-low t (co j) (w .facts j b .low) in let y = ap triangle (w .co-end i (omega arith)) ∙ triangle-tip i in absurd (omega arith)
       go (no a) (no b) c d = let x = ap triangle (w .co-end i (omega arith)) ∙ triangle-tip i in let y = ap triangle (w .co-end j (omega arith)) ∙ triangle-tip j in omega arith
 
   pub carry-inj : (x y : ℕ) → carry co x ≡ carry co y → x ≡ y
@@ -91,7 +91,7 @@ module _ {lab opp : ℕ → ℕ} {t v g : ℕ} {mesh : Sphere lab opp t v g} {sp
   -- carry keeps the corners of the mesh, both ways
   pub carry-low : (x : ℕ) → x < 3 * t → carry co x < 3 * t
   carry-low x h =
-      let a = triangle-low t (co (triangle x)) (w .facts (triangle x) (triangle-low t x h) .0 .0) in
+      let a = triangle-low t (co (triangle x)) (w .facts (triangle x) (triangle-low t x h) .low) in
       triangle-high t (carry co x) (rw (carry-triangle co x) a)
 
   pub carry-back : (x : ℕ) → carry co x < 3 * t → x < 3 * t

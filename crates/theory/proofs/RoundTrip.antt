@@ -9,7 +9,7 @@ use Rattle.theory.proofs.Psi.{carry-vertex, naming, naming-low, naming-
 use Rattle.theory.proofs.Root.{carry-opposite, word-sound, word-two}
 use Rattle.theory.proofs.Runs.{Follows}
 use Rattle.theory.proofs.Tight.{literal, word-of}
-use Rattle.theory.proofs.Whole.{ahead0, cornerOf, letterOf, steps, steps-length, walked}
+use Rattle.theory.proofs.WholeRun.{ahead-all, cornerOf, letterOf, steps, steps-length, walked}
 use Rattle.theory.specs.Corner.{opposite, triangle, vertex}
 use Rattle.theory.specs.Mesh.{Sphere}
 use Rattle.theory.specs.Renumber.{byWalk, turned}
@@ -58,7 +58,7 @@ module _ {lab opp : ℕ → ℕ} {t v g : ℕ} (mesh : Sphere lab opp t v g) whe
           let q = steps mesh in
           let r = walked mesh in
           let n : size w ≡ t = sym (follows-length lab opp g w g q k) ∙ steps-length mesh in
-          let li = linked r w g 0 q k (ahead0 mesh q) in
+          let li = linked r w g 0 q k (ahead-all q) in
           let d : Worded mesh (letterOf (steps mesh)) (cornerOf (steps mesh)) = record { run = r; word = w; sized = n; spells = li .1; linked = li .2 } in
           record {
             long = steps-length mesh;

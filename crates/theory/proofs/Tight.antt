@@ -7,16 +7,17 @@ use native.Mathlib.Decide.{decLt, ℕ-discrete}
 use native.Mathlib.Numerals.{add-one}
 use native.Mathlib.Omega.{arith}
 use lib.ListN.{length, length-append}
+use Rattle.theory.proofs.ByTime.{Ahead, Mark, mark-longer}
 use Rattle.theory.proofs.CornerLaws.{three}
 use Rattle.theory.proofs.Count.{downAt, downs, euler, upAt, ups}
 use Rattle.theory.proofs.Counting.{bit-refl, count, pick, pigeon}
-use Rattle.theory.proofs.Index.{Ahead, Mark, Side, mark-longer}
+use Rattle.theory.proofs.Facts.{Side}
 use Rattle.theory.proofs.Injections.{length-vals, vals, vals-off, vals-once}
 use Rattle.theory.proofs.LetterLaws.{letters-differ}
 use Rattle.theory.proofs.Phi.{mate, mate-mate}
 use Rattle.theory.proofs.Runs.{FollowAll, Follows, countE, countS, forest, loose, tight}
 use Rattle.theory.proofs.Times.{later}
-use Rattle.theory.proofs.Whole.{Walked, ahead0, cornerOf, letterOf, steps, steps-length, the-run, walked}
+use Rattle.theory.proofs.WholeRun.{Walked, ahead-all, cornerOf, letterOf, steps, steps-length, the-run, walked}
 use Rattle.theory.proofs.WordLaws.{width-news}
 use Rattle.theory.specs.Answer.{each}
 use Rattle.theory.specs.Corner.{next, previous, triangle}
@@ -47,7 +48,7 @@ module _ {lab opp : ℕ → ℕ} {t v g : ℕ} (mesh : Sphere lab opp t v g) whe
   Tips q = tips lab q
 
   module _ (sp : ℕ → Letter) (co : ℕ → ℕ) where
-    counts : (q : List Step) (k : ℕ) → Ahead mesh sp co k q
+    counts : (q : List Step) (k : ℕ) → Ahead sp co k q
         → length (downs sp k (length q)) + 2 * length (Tips q) + 2 * countS q ≡ length (ups sp k (length q)) + length q + 2 * countE q
     unfolding tips countS countE upAt downAt ups downs
     counts [] k h = refl
@@ -57,7 +58,7 @@ module _ {lab opp : ℕ → ℕ} {t v g : ℕ} (mesh : Sphere lab opp t v g) whe
     counts ((R ＠ d) ∷ q) k h = let i = counts q (suc k) (h .2) in let a = ups-len sp k (length q) R (h .0) in let b = downs-len sp k (length q) R (h .0) in omega arith
     counts ((S ＠ d) ∷ q) k h = let i = counts q (suc k) (h .2) in let a = ups-len sp k (length q) S (h .0) in let b = downs-len sp k (length q) S (h .0) in omega arith
 
-    tips-has : (q : List Step) (k : ℕ) → Ahead mesh sp co k q → (j : ℕ) → k ≤ j → j < k + length q → sp j ≡ C → 1 ≤ count (lab (co j)) (Tips q)
+    tips-has : (q : List Step) (k : ℕ) → Ahead sp co k q → (j : ℕ) → k ≤ j → j < k + length q → sp j ≡ C → 1 ≤ count (lab (co j)) (Tips q)
     unfolding tips count
     tips-has [] k h j a b c = absurd (omega arith)
     tips-has ((x ＠ d) ∷ q) k h j a b c = go x (h .0) (ℕ-discrete j k) (λ z. tips-has q (suc k) (h .2) j z (omega arith) c)
@@ -75,36 +76,36 @@ module _ {lab opp : ℕ → ℕ} {t v g : ℕ} (mesh : Sphere lab opp t v g) whe
         go S p (no e) f = f (omega arith)
 
     -- every vertex is marked at the end
-    pub covered : Walked mesh sp co → (y : ℕ) → y < v → Mark mesh sp co t y
+    pub covered : Walked mesh sp co → (y : ℕ) → y < v → Mark lab g sp co t y
     covered w y h = go (mesh .present y h)
       where
-        tip : (j : ℕ) → j < t → (a : Letter) → sp j ≡ a → Side mesh sp co t j a → Mark mesh sp co t (lab (co j))
+        tip : (j : ℕ) → j < t → (a : Letter) → sp j ≡ a → Side mesh sp co t j a → Mark lab g sp co t (lab (co j))
         tip j l C q s = inr (inr (j, l, q, refl))
-        tip j l L q s = mark-longer mesh sp co j t (lab (co j)) (omega arith) (s .0)
-        tip j l E q s = mark-longer mesh sp co j t (lab (co j)) (omega arith) (s .0)
-        tip j l R q s = mark-longer mesh sp co j t (lab (co j)) (omega arith) (s .0)
-        tip j l S q s = mark-longer mesh sp co j t (lab (co j)) (omega arith) (s .0)
+        tip j l L q s = mark-longer lab g sp co j t (lab (co j)) (omega arith) (s .0)
+        tip j l E q s = mark-longer lab g sp co j t (lab (co j)) (omega arith) (s .0)
+        tip j l R q s = mark-longer lab g sp co j t (lab (co j)) (omega arith) (s .0)
+        tip j l S q s = mark-longer lab g sp co j t (lab (co j)) (omega arith) (s .0)
 
-        go : (x : ℕ) × (x < 3 * t) × (lab x ≡ y) → Mark mesh sp co t y
+        go : (x : ℕ) × (x < 3 * t) × (lab x ≡ y) → Mark lab g sp co t y
         go (x, l, q) = at (w .seen-all x l)
           where
-            at : (j : ℕ) × (j < t) × (triangle x ≡ triangle (co j)) → Mark mesh sp co t y
+            at : (j : ℕ) × (j < t) × (triangle x ≡ triangle (co j)) → Mark lab g sp co t y
             at (j, b, e) = pick (three x (co j) e)
               where
-                pick : _⊎_ (x ≡ co j) (_⊎_ (x ≡ next (co j)) (x ≡ previous (co j))) → Mark mesh sp co t y
-                pick (inl z) = rw (← q, z) (tip j b (sp j) refl (w .facts j b .1))
-                pick (inr (inl z)) = rw (← q, z) (mark-longer mesh sp co j t (lab (next (co j))) (omega arith) (w .facts j b .0 .4))
-                pick (inr (inr z)) = rw (← q, z) (mark-longer mesh sp co j t (lab (previous (co j))) (omega arith) (w .facts j b .0 .5))
+                pick : _⊎_ (x ≡ co j) (_⊎_ (x ≡ next (co j)) (x ≡ previous (co j))) → Mark lab g sp co t y
+                pick (inl z) = rw (← q, z) (tip j b (sp j) refl (w .facts j b .side))
+                pick (inr (inl z)) = rw (← q, z) (mark-longer lab g sp co j t (lab (next (co j))) (omega arith) (w .facts j b .left-end))
+                pick (inr (inr z)) = rw (← q, z) (mark-longer lab g sp co j t (lab (previous (co j))) (omega arith) (w .facts j b .right-end))
 
     -- E6
-    pub marks-bound : Walked mesh sp co → (q : List Step) → Ahead mesh sp co 0 q → length q ≡ t → v ≤ 2 + length (Tips q)
+    pub marks-bound : Walked mesh sp co → (q : List Step) → Ahead sp co 0 q → length q ≡ t → v ≤ 2 + length (Tips q)
     unfolding count
     marks-bound w q h n =
         let p = pigeon (vals (λ i. i) v) (lab (next g) ∷ (lab (previous g) ∷ Tips q)) each in
         let a = length-vals (λ i. i) v in
         omega arith
       where
-        has : (y : ℕ) → Mark mesh sp co t y → 1 ≤ count y (lab (next g) ∷ (lab (previous g) ∷ Tips q))
+        has : (y : ℕ) → Mark lab g sp co t y → 1 ≤ count y (lab (next g) ∷ (lab (previous g) ∷ Tips q))
         has y (inl e) = let b = bit-refl (lab (next g)) in rw e (omega arith)
         has y (inr (inl e)) = let b = bit-refl (lab (previous g)) in rw e (omega arith)
         has y (inr (inr (j, l, c, e))) = let b = tips-has q 0 h j (omega arith) (omega arith) c in rw e (omega arith)
@@ -117,7 +118,7 @@ module _ {lab opp : ℕ → ℕ} {t v g : ℕ} (mesh : Sphere lab opp t v g) whe
             go (no l) = let a = vals-off (λ i. i) y v (λ i o e. omega arith) in omega arith
 
     -- E5 in letters
-    pub enough : Walked mesh sp co → (q : List Step) → Ahead mesh sp co 0 q → (m : ℕ) → t ≡ suc m → length q ≡ t → countS q + 1 ≤ countE q
+    pub enough : Walked mesh sp co → (q : List Step) → Ahead sp co 0 q → (m : ℕ) → t ≡ suc m → length q ≡ t → countS q + 1 ≤ countE q
     unfolding downs
     enough w q h m e n =
         let a = euler sp m (mate w) (mate-mate w) (later w m e) in
@@ -137,7 +138,7 @@ module _ {lab opp : ℕ → ℕ} {t v g : ℕ} (mesh : Sphere lab opp t v g) whe
       let n = steps-length mesh in
       let a = loose lab opp g (the-run mesh) in
       let z = mesh .gate in
-      let b = enough (letterOf q) (cornerOf q) (walked mesh) q (ahead0 mesh q) (t - 1) (omega arith) n in
+      let b = enough (letterOf q) (cornerOf q) (walked mesh) q (ahead-all q) (t - 1) (omega arith) n in
       omega arith
 
   -- the walk of document 01 is this run

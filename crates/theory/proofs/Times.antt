@@ -5,14 +5,15 @@ use mathlib.Core.Path.{_∙_, _≡_, ap, refl, subst, sym}
 use Prim.Native.Nat.{_*_, _+_, _<_, _≤_, suc, zero, ℕ}
 use native.Mathlib.Decide.{decLt, ℕ-discrete}
 use native.Mathlib.Omega.{arith}
+use Rattle.theory.proofs.ByTime.{Earlier}
 use Rattle.theory.proofs.CornerLaws.{next-previous, previous-low, triangle-left, triangle-previous, triangle-right, triangle-tip}
 use Rattle.theory.proofs.Count.{upAt, ups}
 use Rattle.theory.proofs.Counting.{bit-off, bit-one, count, count-append, tris, tris-in}
-use Rattle.theory.proofs.Index.{Earlier, Side}
+use Rattle.theory.proofs.Facts.{Side}
 use Rattle.theory.proofs.Phi.{carry, carry-left, carry-mate, carry-right, carry-tip, carry-triangle, mate, mate-at, mate-low, time-inj}
-use Rattle.theory.proofs.Ring.{fresh}
 use Rattle.theory.proofs.SphereLaws.{other-triangle}
-use Rattle.theory.proofs.Whole.{Walked}
+use Rattle.theory.proofs.Visited.{fresh}
+use Rattle.theory.proofs.WholeRun.{Walked}
 use Rattle.theory.specs.Corner.{inside, next, previous, triangle}
 use Rattle.theory.specs.Mesh.{Sphere}
 use Rattle.theory.specs.declared.Letter.{Letter}
@@ -63,7 +64,7 @@ module _ {lab opp : ℕ → ℕ} {t v g : ℕ} {mesh : Sphere lab opp t v g} {sp
   mate′ = mate w
 
   abbrev Bef : ℕ → ℕ → Type 0
-  Bef = Earlier mesh sp co
+  Bef = Earlier co
 
   earlier-mate : (n x : ℕ) → Bef n (opp (carry co x)) → triangle (mate′ x) < n
   earlier-mate n x (j, h, q) =
@@ -79,11 +80,11 @@ module _ {lab opp : ℕ → ℕ} {t v g : ℕ} {mesh : Sphere lab opp t v g} {sp
 
   -- the letter's facts at step k
   pub side-at : (k : ℕ) (a : Letter) → k < t → sp k ≡ a → Side mesh sp co t k a
-  side-at k a h q = subst (Side mesh sp co t k) q (w .facts k h .1)
+  side-at k a h q = subst (Side mesh sp co t k) q (w .facts k h .side)
 
   -- the step after an up right side
   pub up-right : (k : ℕ) → k < t → UpR (sp k) → (suc k < t) × (mate′ (3 * k + 1) ≡ 3 * suc k)
-  up-right k h u = let z = go (sp k) (w .facts k h .1) u in (z .0, mate-at w (3 * k + 1) (3 * suc k) (ap opp (carry-left co k) ∙ sym (z .1) ∙ sym (carry-tip co (suc k))))
+  up-right k h u = let z = go (sp k) (w .facts k h .side) u in (z .0, mate-at w (3 * k + 1) (3 * suc k) (ap opp (carry-left co k) ∙ sym (z .1) ∙ sym (carry-tip co (suc k))))
     where
       go : (a : Letter) → Side mesh sp co t k a → UpR a → (suc k < t) × (co (suc k) ≡ opp (next (co k)))
       go C s u = (s .1, s .2)
@@ -106,10 +107,10 @@ module _ {lab opp : ℕ → ℕ} {t v g : ℕ} {mesh : Sphere lab opp t v g} {sp
       bad (j, l, e) = go (decLt j k)
         where
           go : Dec (j < k) → ⊥
-          go (yes z) = fresh mesh sp co t (w .facts) k (previous (opp (previous (co k)))) h q (j, z, triangle-previous (opp (previous (co k))) ∙ e) (sym (mesh .glued (previous (co k))) ∙ ap lab (next-previous (co k)))
+          go (yes z) = fresh mesh (w .facts) k (previous (opp (previous (co k)))) h q (j, z, triangle-previous (opp (previous (co k))) ∙ e) (sym (mesh .glued (previous (co k))) ∙ ap lab (next-previous (co k)))
           go (no z) =
               let same : j ≡ k = omega arith in
-              other-triangle mesh (previous (co k)) (previous-low t (co k) (w .facts k h .0 .0)) (e ∙ ap (λ (i : ℕ). triangle (co i)) same ∙ sym (triangle-previous (co k)))
+              other-triangle mesh (previous (co k)) (previous-low t (co k) (w .facts k h .low)) (e ∙ ap (λ (i : ℕ). triangle (co i)) same ∙ sym (triangle-previous (co k)))
 
   later-0 : 0 < t → 0 < triangle (mate′ 0)
   later-0 h = let a = later-mate 1 0 bad in omega arith
@@ -117,13 +118,13 @@ module _ {lab opp : ℕ → ℕ} {t v g : ℕ} {mesh : Sphere lab opp t v g} {sp
       bad : Bef 1 (opp (carry co 0)) → ⊥
       bad (j, l, e) =
           let z : j ≡ 0 = omega arith in
-          other-triangle mesh (co 0) (w .facts 0 h .0 .0) (ap (λ (i : ℕ). triangle (opp i)) (sym (carry-tip co 0)) ∙ e ∙ ap (λ (i : ℕ). triangle (co i)) z)
+          other-triangle mesh (co 0) (w .facts 0 h .low) (ap (λ (i : ℕ). triangle (opp i)) (sym (carry-tip co 0)) ∙ e ∙ ap (λ (i : ℕ). triangle (co i)) z)
 
   pub bottom : (k : ℕ) → 0 < k → k < t → triangle (mate′ (3 * k)) < k
-  bottom k p h = earlier-mate k (3 * k) (rw (carry-tip co k) (w .facts k h .0 .2 p))
+  bottom k p h = earlier-mate k (3 * k) (rw (carry-tip co k) (w .facts k h .bottom p))
 
   pub down-right : (k : ℕ) → k < t → (UpR (sp k) → ⊥) → triangle (mate′ (3 * k + 1)) < k
-  down-right k h n = earlier-mate k (3 * k + 1) (rw (carry-left co k) (go (sp k) (w .facts k h .1) n))
+  down-right k h n = earlier-mate k (3 * k + 1) (rw (carry-left co k) (go (sp k) (w .facts k h .side) n))
     where
       go : (a : Letter) → Side mesh sp co t k a → (UpR a → ⊥) → Bef k (opp (next (co k)))
       go C s n = absurd (n tt)
@@ -133,7 +134,7 @@ module _ {lab opp : ℕ → ℕ} {t v g : ℕ} {mesh : Sphere lab opp t v g} {sp
       go S s n = absurd (n tt)
 
   pub down-left : (k : ℕ) → k < t → (UpL (sp k) → ⊥) → triangle (mate′ (3 * k + 2)) < k
-  down-left k h n = earlier-mate k (3 * k + 2) (rw (carry-right co k) (go (sp k) (w .facts k h .1) n))
+  down-left k h n = earlier-mate k (3 * k + 2) (rw (carry-right co k) (go (sp k) (w .facts k h .side) n))
     where
       go : (a : Letter) → Side mesh sp co t k a → (UpL a → ⊥) → Bef k (opp (previous (co k)))
       go C s n = absurd (n tt)
