@@ -22,10 +22,10 @@ pub mod ByTime
 pub mod Facts
 pub mod Visited
 pub mod WholeRun
-pub mod Phi
-pub mod Count
-pub mod Times
-pub mod Tight
+pub mod Carry
+pub mod UpSides
+pub mod Neighbours
+pub mod Balanced
 pub mod Linked
 pub mod Out
 pub mod Match

@@ -7,8 +7,8 @@ use native.Mathlib.Numerals.{add-one}
 use native.Mathlib.Omega.{arith}
 use lib.ListN.{length, length-append}
 use Rattle.theory.proofs.ByTime.{Ahead}
+use Rattle.theory.proofs.Carry.{carry, carry-left, carry-right, carry-tip}
 use Rattle.theory.proofs.Chain.{Each, each-append}
-use Rattle.theory.proofs.Phi.{carry, carry-left, carry-right, carry-tip}
 use Rattle.theory.proofs.Runs.{Follows}
 use Rattle.theory.proofs.WholeRun.{Walked}
 use Rattle.theory.specs.Corner.{next, previous}
@@ -25,8 +25,8 @@ unfolding lettersOf
 letters-append [] b = refl
 letters-append ((x ＠ d) ∷ a) b = ap (λ (y : List ℕ). byte x ∷ y) (letters-append a b)
 
-module _ (lab opp : ℕ → ℕ) (g : ℕ) where
-  pub follows-letters : (w : Word) (x : ℕ) (q : List Step) → Follows lab opp g w x q → lettersOf q ≡ spell w
+module _ (opp : ℕ → ℕ) where
+  pub follows-letters : (w : Word) (x : ℕ) (q : List Step) → Follows opp w x q → lettersOf q ≡ spell w
   unfolding lettersOf spell
   follows-letters wE x q h = ap lettersOf h
   follows-letters (wC w) x q (q₁, h, k) = ap lettersOf h ∙ ap (λ (y : List ℕ). byte C ∷ y) (follows-letters w (opp (next x)) q₁ k)
@@ -35,7 +35,7 @@ module _ (lab opp : ℕ → ℕ) (g : ℕ) where
   follows-letters (wS a b) x q (q₁, q₂, h, k, m) =
       ap lettersOf h ∙ ap (λ (y : List ℕ). byte S ∷ y) (letters-append q₁ q₂ ∙ ap (λ (y : List ℕ). y ++ lettersOf q₂) (follows-letters a (opp (next x)) q₁ k) ∙ ap (λ (y : List ℕ). spell a ++ y) (follows-letters b (opp (previous x)) q₂ m))
 
-  pub follows-length : (w : Word) (x : ℕ) (q : List Step) → Follows lab opp g w x q → length q ≡ size w
+  pub follows-length : (w : Word) (x : ℕ) (q : List Step) → Follows opp w x q → length q ≡ size w
   unfolding size
   follows-length wE x q h = ap length h
   follows-length (wC w) x q (q₁, h, k) = ap length h ∙ ap suc (follows-length w (opp (next x)) q₁ k)
@@ -77,7 +77,7 @@ module _ {lab opp : ℕ → ℕ} {t v g : ℕ} {mesh : Sphere lab opp t v g} {sp
   join-left : (k j x : ℕ) → co k ≡ x → co j ≡ opp (previous x) → Faces opp co (3 * k + 2) (3 * j)
   join-left k j x p q = rw (carry-right co k, carry-tip co j, p) (sym q)
 
-  pub linked : (x : Word) (d k : ℕ) (q : List Step) → Follows lab opp g x d q → Ahead sp co k q → Linked k x d
+  pub linked : (x : Word) (d k : ℕ) (q : List Step) → Follows opp x d q → Ahead sp co k q → Linked k x d
   unfolding links
   linked wE d k q h a = let z = rw h at a in (z .1, z .0, tt)
   linked (wC x) d k q (q₁, h, m) a =
@@ -94,7 +94,7 @@ module _ {lab opp : ℕ → ℕ} {t v g : ℕ} {mesh : Sphere lab opp t v g} {sp
       (z .1, (z .0, i .1), (join-left k (k + 1) d (z .1) (i .0), i .2))
   linked (wS x y) d k q (q₁, q₂, h, m, n) a =
       let z = rw h at a in
-      let len = follows-length lab opp g x (opp (next d)) q₁ m in
+      let len = follows-length opp x (opp (next d)) q₁ m in
       let at2 : suc k + length q₁ ≡ k + 1 + size x = omega arith in
       let i = subst (λ (n : ℕ). Linked n x (opp (next d))) (sym (add-one k)) (linked x (opp (next d)) (suc k) q₁ m (ahead-left (suc k) q₁ q₂ (z .2))) in
       let j = subst (λ (n : ℕ). Linked n y (opp (previous d))) at2 (linked y (opp (previous d)) (suc k + length q₁) q₂ n (ahead-right (suc k) q₁ q₂ (z .2))) in (

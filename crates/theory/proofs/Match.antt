@@ -6,6 +6,7 @@ use Prim.Native.Nat.{_*_, _+_, _<_, _≤_, suc, ℕ}
 use native.Mathlib.Decide.{decLt}
 use native.Mathlib.Omega.{arith}
 use lib.ListN.{length, length-append}
+use Rattle.theory.proofs.Carry.{carry, carry-inj, carry-next, carry-previous}
 use Rattle.theory.proofs.Chain.{Chain, Each, Glue, chain, chain-last, each-append, each-left, each-map, each-right}
 use Rattle.theory.proofs.CornerLaws.{next-left, next-right, next-tip, previous-left, previous-right, previous-tip}
 use Rattle.theory.proofs.Counting.{bit-refl, count, count-append, eachN-absent, tris-once}
@@ -15,7 +16,6 @@ use Rattle.theory.proofs.Linked.{Faces, Spells}
 use Rattle.theory.proofs.ListLaws.{snoc-view}
 use Rattle.theory.proofs.Opens.{cover, length-opens, mates, opens, opens-low}
 use Rattle.theory.proofs.Out.{LeftOfC, Outward, SplitLeft, apart-at, fresh-at, out-E, out-L, out-R}
-use Rattle.theory.proofs.Phi.{carry, carry-inj, carry-next, carry-previous}
 use Rattle.theory.proofs.SphereLaws.{glued-left}
 use Rattle.theory.proofs.WholeRun.{Walked}
 use Rattle.theory.proofs.WordLaws.{width-two}

@@ -4,13 +4,14 @@ use mathlib.Core.Path.{_∙_, _≡_, ap, refl, sym}
 use Prim.Native.Nat.{_*_, _+_, _<_, _≤_, suc, ℕ}
 use native.Mathlib.Decide.{decLt, ℕ-discrete}
 use native.Mathlib.Omega.{arith}
+use Rattle.theory.proofs.Carry.{carry, carry-inj, carry-left, carry-low, carry-mate, carry-right, carry-tip, carry-triangle, mate, mate-at, mate-mate}
 use Rattle.theory.proofs.Chain.{Each, each-left, each-right}
 use Rattle.theory.proofs.CornerLaws.{Place, at-left, at-right, at-tip, next-low, next-next, place, triangle-high, triangle-left, triangle-low, triangle-right, triangle-tip}
 use Rattle.theory.proofs.LetterLaws.{letters-differ}
 use Rattle.theory.proofs.Linked.{Faces, Spells}
-use Rattle.theory.proofs.Phi.{carry, carry-inj, carry-left, carry-low, carry-mate, carry-right, carry-tip, carry-triangle, mate, mate-at, mate-mate}
+use Rattle.theory.proofs.Neighbours.{bottom, down-left, down-right, up-left, up-right}
 use Rattle.theory.proofs.SphereLaws.{one-corner}
-use Rattle.theory.proofs.Times.{UpL, UpR, bottom, down-left, down-right, up-left, up-right}
+use Rattle.theory.proofs.UpSides.{UpL, UpR}
 use Rattle.theory.proofs.Visited.{fresh}
 use Rattle.theory.proofs.WholeRun.{Walked}
 use Rattle.theory.specs.Corner.{next, triangle}

@@ -5,6 +5,8 @@ use Prim.Native.Nat.{_*_, _+_, _<_, suc, ℕ}
 use native.Mathlib.Decide.{decLt}
 use native.Mathlib.Omega.{arith}
 use lib.ListN.{getD}
+use Rattle.theory.proofs.Balanced.{vertex-count}
+use Rattle.theory.proofs.Carry.{carry, carry-next, carry-previous, carry-uncarry, uncarry, uncarry-low}
 use Rattle.theory.proofs.Chain.{each-map}
 use Rattle.theory.proofs.CornerLaws.{next-tip, previous-tip}
 use Rattle.theory.proofs.Fit.{Fit, GlueM, Names, names-of, tipsOf, vertex-named}
@@ -12,12 +14,10 @@ use Rattle.theory.proofs.Injections.{onto}
 use Rattle.theory.proofs.JoinLaws.{Both}
 use Rattle.theory.proofs.Linked.{Faces, Worded}
 use Rattle.theory.proofs.Opens.{mates, opens}
-use Rattle.theory.proofs.Phi.{carry, carry-next, carry-previous, carry-uncarry, uncarry, uncarry-low}
 use Rattle.theory.proofs.Root.{mates-hold, root-open, word-sound, word-two}
 use Rattle.theory.proofs.Rows.{Rows}
 use Rattle.theory.proofs.SphereLaws.{glued-left}
 use Rattle.theory.proofs.TableRows.{rows-of}
-use Rattle.theory.proofs.Tight.{vertex-count}
 use Rattle.theory.proofs.VertexRange.{rows-low}
 use Rattle.theory.specs.Corner.{next, previous, vertex}
 use Rattle.theory.specs.Mesh.{Sphere}

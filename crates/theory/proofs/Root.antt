@@ -5,6 +5,7 @@ use Prim.Native.Nat.{_*_, _<_, _≤_, ℕ}
 use native.Mathlib.Omega.{arith}
 use lib.Dec.{eqb}
 use lib.ListN.{length}
+use Rattle.theory.proofs.Carry.{carry, carry-inj}
 use Rattle.theory.proofs.Chain.{Each, each-append}
 use Rattle.theory.proofs.Counting.{bit, bit-refl, count, tris-once}
 use Rattle.theory.proofs.Each.{EachN}
@@ -13,7 +14,6 @@ use Rattle.theory.proofs.Linked.{Faces, Worded}
 use Rattle.theory.proofs.Match.{match}
 use Rattle.theory.proofs.Opens.{cover, length-opens, mates, opens}
 use Rattle.theory.proofs.Out.{Outward, SplitLeft, split-left}
-use Rattle.theory.proofs.Phi.{carry, carry-inj}
 use Rattle.theory.proofs.TableJoins.{entry-at}
 use Rattle.theory.proofs.WordLaws.{width-two}
 use Rattle.theory.specs.Corner.{opposite}

@@ -3,12 +3,12 @@ use mathlib.Core.List.{List}
 use mathlib.Core.Path.{_∙_, _≡_, subst, sym}
 use Prim.Native.Nat.{_*_, _+_, _<_, ℕ}
 use lib.ListN.{length}
+use Rattle.theory.proofs.Balanced.{literal, word-of}
+use Rattle.theory.proofs.Carry.{carry, carry-low, carry-uncarry, time-inj, uncarry, uncarry-carry, uncarry-low}
 use Rattle.theory.proofs.Linked.{Worded, follows-length, follows-letters, linked}
-use Rattle.theory.proofs.Phi.{carry, carry-low, carry-uncarry, time-inj, uncarry, uncarry-carry, uncarry-low}
 use Rattle.theory.proofs.Psi.{carry-vertex, naming, naming-low, naming-unnaming, news-count, read-back-low, unnaming, unnaming-low, unnaming-naming}
 use Rattle.theory.proofs.Root.{carry-opposite, word-sound, word-two}
 use Rattle.theory.proofs.Runs.{Follows}
-use Rattle.theory.proofs.Tight.{literal, word-of}
 use Rattle.theory.proofs.WholeRun.{ahead-all, cornerOf, letterOf, steps, steps-length, walked}
 use Rattle.theory.specs.Corner.{opposite, triangle, vertex}
 use Rattle.theory.specs.Mesh.{Sphere}
@@ -53,11 +53,11 @@ module _ {lab opp : ℕ → ℕ} {t v g : ℕ} (mesh : Sphere lab opp t v g) whe
   unfolding byWalk carry turned
   round-steps = go (word-of mesh)
     where
-      go : (w : Word) × Follows lab opp g w g (steps mesh) → Round lab opp t v g (steps mesh)
+      go : (w : Word) × Follows opp w g (steps mesh) → Round lab opp t v g (steps mesh)
       go (w, k) =
           let q = steps mesh in
           let r = walked mesh in
-          let n : size w ≡ t = sym (follows-length lab opp g w g q k) ∙ steps-length mesh in
+          let n : size w ≡ t = sym (follows-length opp w g q k) ∙ steps-length mesh in
           let li = linked r w g 0 q k (ahead-all q) in
           let d : Worded mesh (letterOf (steps mesh)) (cornerOf (steps mesh)) = record { run = r; word = w; sized = n; spells = li .1; linked = li .2 } in
           record {
@@ -65,7 +65,7 @@ module _ {lab opp : ℕ → ℕ} {t v g : ℕ} (mesh : Sphere lab opp t v g) whe
             once = time-inj r;
             met = r .seen-all;
             word = w;
-            spelt = sym (follows-letters lab opp g w g q k);
+            spelt = sym (follows-letters opp w g q k);
             sound = word-sound d;
             two = word-two d;
             sized = n;
