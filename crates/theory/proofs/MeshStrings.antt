@@ -58,11 +58,11 @@ module _ {vs os vs′ os′ : List ℕ} {v g v′ g′ : ℕ} (m : Accepted vs o
   Alike = lettersOf (meshWalk vs os g) ≡ lettersOf (meshWalk vs′ os′ g′)
 
   -- the renumbering, in the end
-  pub corners : ℕ → ℕ
-  corners = cornerMap (mesh-round m) (mesh-round m′)
+  pub meshCorners : ℕ → ℕ
+  meshCorners = cornerMap (mesh-round m) (mesh-round m′)
 
-  pub names : ℕ → ℕ
-  names = vertexMap (mesh-round m) (mesh-round m′)
+  pub meshVertices : ℕ → ℕ
+  meshVertices = vertexMap (mesh-round m) (mesh-round m′)
 
   -- T4
   pub strings-sizes : Alike → (length vs ≡ length vs′) × (v ≡ v′)
@@ -72,8 +72,8 @@ module _ {vs os vs′ os′ : List ℕ} {v g v′ g′ : ℕ} (m : Accepted vs o
       let d = shape-length vs′ os′ (m′ .shape) .1 in
       (omega arith, same-v (mesh-round m) (mesh-round m′) s)
 
-  pub strings-renumber : Alike → OneMesh corners names
-  unfolding corners names
+  pub strings-renumber : Alike → OneMesh meshCorners meshVertices
+  unfolding meshCorners meshVertices
   strings-renumber s = renumbered (mesh-round m) (mesh-round m′) s
 
   module _ (n : length vs ≡ length vs′) {h a : ℕ → ℕ} (iso : OneMesh h a) where
@@ -81,10 +81,10 @@ module _ {vs os vs′ os′ : List ℕ} {v g v′ g′ : ℕ} (m : Accepted vs o
     unfolding meshWalk
     renumber-strings = equal-strings (m .sphere) (m′ .sphere) (omega arith) iso
 
-    pub renumber-corners : (c : ℕ) → c < 3 * (length vs / 3) → h c ≡ corners c
-    unfolding corners mesh-round
+    pub renumber-corners : (c : ℕ) → c < 3 * (length vs / 3) → h c ≡ meshCorners c
+    unfolding meshCorners mesh-round
     renumber-corners = only-corners (m .sphere) (m′ .sphere) (omega arith) iso
 
-    pub renumber-vertices : (u : ℕ) → u < v → a u ≡ names u
-    unfolding names mesh-round
+    pub renumber-vertices : (u : ℕ) → u < v → a u ≡ meshVertices u
+    unfolding meshVertices mesh-round
     renumber-vertices = only-vertices (m .sphere) (m′ .sphere) (omega arith) iso

@@ -6,10 +6,10 @@ use lib.ListN.{length}
 use Rattle.theory.proofs.Balanced.{literal, word-of}
 use Rattle.theory.proofs.Carry.{carry, carry-low, carry-uncarry, time-inj, uncarry, uncarry-carry, uncarry-low}
 use Rattle.theory.proofs.Linked.{Worded, follows-length, follows-letters, linked}
-use Rattle.theory.proofs.Psi.{carry-vertex, naming, naming-low, naming-unnaming, news-count, read-back-low, unnaming, unnaming-low, unnaming-naming}
-use Rattle.theory.proofs.Root.{carry-opposite, word-sound, word-two}
+use Rattle.theory.proofs.Naming.{carry-vertex, naming, naming-low, naming-unnaming, news-count, read-back-low, unnaming, unnaming-low, unnaming-naming}
 use Rattle.theory.proofs.Runs.{Follows}
 use Rattle.theory.proofs.WholeRun.{ahead-all, cornerOf, letterOf, steps, steps-length, walked}
+use Rattle.theory.proofs.WordCloses.{carry-opposite, word-sound, word-two}
 use Rattle.theory.specs.Corner.{opposite, triangle, vertex}
 use Rattle.theory.specs.Mesh.{Sphere}
 use Rattle.theory.specs.Renumber.{byWalk, turned}
@@ -58,8 +58,8 @@ module _ {lab opp : ℕ → ℕ} {t v g : ℕ} (mesh : Sphere lab opp t v g) whe
           let q = steps mesh in
           let r = walked mesh in
           let n : size w ≡ t = sym (follows-length opp w g q k) ∙ steps-length mesh in
-          let li = linked r w g 0 q k (ahead-all q) in
-          let d : Worded mesh (letterOf (steps mesh)) (cornerOf (steps mesh)) = record { run = r; word = w; sized = n; spells = li .1; linked = li .2 } in
+          let li = linked opp (letterOf q) (cornerOf q) w g 0 q k (ahead-all q) in
+          let d : Worded mesh (letterOf (steps mesh)) (cornerOf (steps mesh)) = record { run = r; word = w; sized = n; spells = li .1; links-face = li .2 } in
           record {
             long = steps-length mesh;
             once = time-inj r;

@@ -1,4 +1,7 @@
--- Root.
+-- E11: the word of a walk closes, and the walk carries the opposites read back to the mesh's.
+--
+--   word-sound word-two   it is sound and has width 2: its only open side faces the gate (`root-open`)
+--   carry-opposite        opp (carry y) = carry (the entry of table O at y)
 use mathlib.Core.List.{List, [], _∷_}
 use mathlib.Core.Path.{_∙_, _≡_, ap, refl, sym}
 use Prim.Native.Nat.{_*_, _<_, _≤_, ℕ}
@@ -10,10 +13,10 @@ use Rattle.theory.proofs.Chain.{Each, each-append}
 use Rattle.theory.proofs.Counting.{bit, bit-refl, count, tris-once}
 use Rattle.theory.proofs.Each.{EachN}
 use Rattle.theory.proofs.JoinLaws.{Both, up}
-use Rattle.theory.proofs.Linked.{Faces, Worded}
-use Rattle.theory.proofs.Match.{match}
+use Rattle.theory.proofs.Linked.{Faces, Worded, faces-turn}
+use Rattle.theory.proofs.Matched.{Matched, match}
 use Rattle.theory.proofs.Opens.{cover, length-opens, mates, opens}
-use Rattle.theory.proofs.Out.{Outward, SplitLeft, split-left}
+use Rattle.theory.proofs.Outward.{Outward, SplitLeft, split-left}
 use Rattle.theory.proofs.TableJoins.{entry-at}
 use Rattle.theory.proofs.WordLaws.{width-two}
 use Rattle.theory.specs.Corner.{opposite}
@@ -26,30 +29,29 @@ module _ {lab opp : ℕ → ℕ} {t v g : ℕ} {mesh : Sphere lab opp t v g} {sp
   abbrev Meet : ℕ → ℕ → Type 0
   Meet = Faces opp co
 
-  -- E10
-  matched : Sound (walk .word) × Each Meet (mates 0 (walk .word)) × EachN (Outward opp sp co 0) (opens 0 (walk .word))
-  matched =
-      let z = match (walk .run) lefts 0 (walk .word) (walk .spells) (walk .linked) in
-      (z .0, z .1, z .3)
-    where
-      lefts : SplitLeft (walk .run) 0 t
-      lefts j p q u = split-left (walk .run) (walk .word) 0 (walk .spells) (walk .linked) j p (rw (walk .sized) q) u
+  lefts : SplitLeft opp sp co 0 t
+  lefts j p q u = split-left opp sp co (walk .word) 0 (walk .spells) (walk .links-face) j p (rw (walk .sized) q) u
+
+  matched : Matched (walk .run) lefts 0 (walk .word)
+  matched = match (walk .run) lefts 0 (walk .word) (walk .spells) (walk .links-face)
 
   pub word-sound : Sound (walk .word)
-  word-sound = matched .0
+  word-sound = matched .sound
+
+  pub mates-hold : Each Meet (mates 0 (walk .word))
+  mates-hold = matched .mates-face
 
   at-gate : (b : ℕ) → Outward opp sp co 0 b → Meet b 0
   at-gate b (y, q, u, z) = let e : y ≡ 0 = omega arith in q ∙ ap (carry co) e
 
-  -- only one side is open at the root: it lies at the gate
+  -- two sides that face the gate are one
   lone : (os : List ℕ) → 1 ≤ length os → EachN (Outward opp sp co 0) os → ((b : ℕ) → count b os ≤ 1) → (length os ≡ 1) × Both Meet os (0 ∷ [])
   unfolding count
   lone [] h o d = absurd (omega arith)
   lone (b ∷ []) h o d = (refl, (at-gate b (o .0), tt))
   lone (b ∷ (a ∷ os)) h o d =
-      let pair = mesh .paired in
-      let same : b ≡ a =
-          carry-inj (walk .run) b a (sym (pair (carry co b)) ∙ ap opp (at-gate b (o .0) ∙ sym (at-gate a (o .1 .0))) ∙ pair (carry co a)) in
+      let turn = faces-turn mesh co in
+      let same = carry-inj (walk .run) b a (sym (turn b 0 (at-gate b (o .0))) ∙ turn a 0 (at-gate a (o .1 .0))) in
       let p = bit-refl b in
       let q : bit (eqb b a) ≡ 1 = rw (← same) (bit-refl b) in
       let r = d b in
@@ -60,12 +62,8 @@ module _ {lab opp : ℕ → ℕ} {t v g : ℕ} {mesh : Sphere lab opp t v g} {sp
       let x = walk .word in
       let m = length-opens 0 x word-sound in
       let two = width-two x word-sound in
-      lone (opens 0 x) (omega arith) (matched .2) (λ b. let a = cover b 0 x word-sound in let d = tris-once b (size x) 0 in omega arith)
+      lone (opens 0 x) (omega arith) (matched .opens-out) (λ b. let a = cover b 0 x word-sound in let d = tris-once b (size x) 0 in omega arith)
 
-  pub mates-hold : Each Meet (mates 0 (walk .word))
-  mates-hold = matched .1
-
-  -- E11
   pub word-two : width (walk .word) ≡ 2
   word-two = let m = length-opens 0 (walk .word) word-sound in let r = root-open .0 in omega arith
 
@@ -74,9 +72,9 @@ module _ {lab opp : ℕ → ℕ} {t v g : ℕ} {mesh : Sphere lab opp t v g} {sp
   joins-hold =
       let x = walk .word in
       let two = word-two in
-      each-append Meet (links 0 x) (zips 0 x (0 ∷ [])) (walk .linked) (up Meet 0 x (0 ∷ []) word-sound (omega arith) mates-hold (root-open .1))
+      each-append Meet (links 0 x) (zips 0 x (0 ∷ [])) (walk .links-face) (up Meet 0 x (0 ∷ []) word-sound (omega arith) mates-hold (root-open .1))
 
   pub carry-opposite : (y : ℕ) → y < 3 * t → opp (carry co y) ≡ carry co (opposite (tableO (walk .word)) y)
   carry-opposite y h =
       let n = walk .sized in
-      entry-at (walk .word) word-sound word-two Meet (λ a b q. ap opp (sym q) ∙ mesh .paired (carry co a)) joins-hold y (omega arith)
+      entry-at (walk .word) word-sound word-two Meet (faces-turn mesh co) joins-hold y (omega arith)
