@@ -37,7 +37,7 @@ pub mod LoopFits
 pub mod NewVertices
 pub mod Naming
 pub mod RoundTrip
-pub mod Iso
+pub mod CarriedWalk
 pub mod Renumbered
 pub mod MeshStrings
 pub mod Marked

@@ -3,8 +3,8 @@ use mathlib.Core.List.{List, [], _++_}
 use mathlib.Core.Path.{_∙_, _≡_, ap, sym}
 use Prim.Native.Nat.{_*_, _+_, _<_, ℕ}
 use native.Mathlib.Omega.{arith}
+use Rattle.theory.proofs.CarriedWalk.{by-walk-map, same-letters}
 use Rattle.theory.proofs.Carry.{by-walk-next, by-walk-tip}
-use Rattle.theory.proofs.Iso.{by-walk-map, same-letters}
 use Rattle.theory.proofs.RoundTrip.{Round, round}
 use Rattle.theory.proofs.WordLaws.{spell-injective}
 use Rattle.theory.specs.Corner.{next, opposite, vertex}
