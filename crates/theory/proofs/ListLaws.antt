@@ -1,7 +1,7 @@
 -- Laws of `head`, `tail`, `front` and `back`.
 use mathlib.Core.List.{List, [], _++_, _∷_}
 use mathlib.Core.Path.{_≡_, ap, refl}
-use Prim.Native.Nat.{_+_, _-_, _≤_, suc, zero, ℕ}
+use Prim.Native.Nat.{_+_, _-_, _<_, _≤_, suc, zero, ℕ}
 use native.Mathlib.Omega.{arith}
 use lib.ListN.{drop, getD, length, take}
 use Rattle.theory.specs.Lists.{back, front, head, tail}
@@ -86,3 +86,9 @@ pub length-tail : (us : List ℕ) → 1 ≤ length us → length (tail us) + 1 �
 unfolding tail
 length-tail [] h = absurd (omega arith)
 length-tail (u ∷ us) h = omega arith
+
+-- an entry inside a list does not depend on the default
+pub entry-any : (l : List ℕ) (i d e : ℕ) → i < length l → getD l i d ≡ getD l i e
+entry-any [] i d e h = absurd (omega arith)
+entry-any (x ∷ l) zero d e h = refl
+entry-any (x ∷ l) (suc i) d e h = entry-any l i d e (omega arith)
