@@ -14,4 +14,5 @@ pub mod Chain
 pub mod JoinLaws
 pub mod Rows
 pub mod TableRows
+pub mod CallLaws
 pub mod Marked
