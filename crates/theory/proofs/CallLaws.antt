@@ -4,11 +4,12 @@
 --   sized-first sized-second sized-rest    a call whose first two checks are 1 and 2
 --   later-string later-mesh         the numbers behind them are not 1 or 2
 --   filled-done filled-refused      an output after done, and after a refusal
+--   stopped-first stopped-second went-on      answer and work space of a call together
 --   cleared-first cleared-second cleared-later    the work space after 1 and 2, and after every later answer
 use mathlib.Core.Bool.{Bool, cond, false, true}
 use mathlib.Core.List.{List, [], _++_, _∷_}
 use mathlib.Core.Logic.{_≢_}
-use mathlib.Core.Path.{_∙_, _≡_, refl}
+use mathlib.Core.Path.{_∙_, _≡_, refl, sym}
 use Prim.Native.Nat.{_/_, ℕ}
 use lib.Dec.{ltb}
 use lib.Ieee.{fits}
@@ -82,3 +83,24 @@ cleared-first work = refl
 pub cleared-second : (work : List ℕ) → cleared sizes (refused 2 0) work ≡ work
 unfolding cleared mem
 cleared-second work = refl
+
+-- ---- a call as a whole: its answer and its work space
+
+pub record Outcome (shape fits : Bool) (rs : List Rung) (d : Answer) (work : List ℕ) (a : Answer) (work′ : List ℕ) : Type 0 where
+  pub answer : a ≡ firstBroken (whole 1 shape ∷ roomRung fits ∷ rs) d
+  pub space : work′ ≡ cleared sizes a work
+
+module _ {shape fits : Bool} {rs : List Rung} {d : Answer} {work : List ℕ} {a : Answer} where
+  pub stopped-first : shape ≡ false → a ≡ refused 1 0 → Outcome shape fits rs d work a work
+  stopped-first h e =
+      record { answer = e ∙ sym (sized-first shape fits rs d h); space = rw e (sym (cleared-first work)) }
+
+  pub stopped-second : shape ≡ true → fits ≡ false → a ≡ refused 2 0 → Outcome shape fits rs d work a work
+  stopped-second h f e =
+      record { answer = e ∙ sym (sized-second shape fits rs d h f); space = rw e (sym (cleared-second work)) }
+
+  pub went-on :
+      {work′ : List ℕ} → shape ≡ true → fits ≡ true → a ≡ firstBroken rs d → Later (a .number) → work′ ≡ replicate (length work) 0
+      → Outcome shape fits rs d work a work′
+  went-on h f e l z =
+      record { answer = e ∙ sym (sized-rest shape fits rs d h f); space = z ∙ sym (cleared-later a work l) }
