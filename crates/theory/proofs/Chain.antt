@@ -8,6 +8,7 @@ use native.Mathlib.Omega.{arith}
 use Rattle.theory.proofs.CornerLaws.{next-left, next-right, next-tip, previous-left, previous-right, previous-tip}
 use Rattle.theory.proofs.ListLaws.{snoc-view}
 use Rattle.theory.proofs.Opens.{length-opens, mates, opens}
+use Rattle.theory.proofs.Swings.{To}
 use Rattle.theory.specs.Corner.{next, previous}
 use Rattle.theory.specs.Lists.{back, front}
 use Rattle.theory.specs.Tables.{Pair, _⇌_, links}
@@ -27,6 +28,9 @@ pub each-right : (P : ℕ → ℕ → Type 0) (a b : List Pair) → Each P (a ++
 each-right P [] b h = h
 each-right P ((x ⇌ y) ∷ a) b h = each-right P a b (h .1)
 
+pub each-split : (P : ℕ → ℕ → Type 0) (a b : List Pair) → Each P (a ++ b) → Each P a × Each P b
+each-split P a b h = (each-left P a b h, each-right P a b h)
+
 pub each-append : (P : ℕ → ℕ → Type 0) (a b : List Pair) → Each P a → Each P b → Each P (a ++ b)
 each-append P [] b h i = i
 each-append P ((x ⇌ y) ∷ a) b h i = (h .0, each-append P a b (h .1) i)
@@ -34,6 +38,10 @@ each-append P ((x ⇌ y) ∷ a) b h i = (h .0, each-append P a b (h .1) i)
 pub each-map : (P Q : ℕ → ℕ → Type 0) (f : (x y : ℕ) → P x y → Q x y) (a : List Pair) → Each P a → Each Q a
 each-map P Q f [] h = tt
 each-map P Q f ((x ⇌ y) ∷ a) h = (f x y (h .0), each-map P Q f a (h .1))
+
+pub each-two : (P Q : ℕ → ℕ → Type 0) (js : List Pair) → Each P js → Each Q js → Each (λ a b. P a b × Q a b) js
+each-two P Q [] h i = tt
+each-two P Q ((a ⇌ b) ∷ js) h i = ((h .0, i .0), each-two P Q js (h .1) (i .1))
 
 module _ (To : ℕ → ℕ → Type 0) (rfl : (x : ℕ) → To x x) (trs : (x y z : ℕ) → To x y → To y z → To x z) where
   abbrev pub Glue : ℕ → ℕ → Type 0

@@ -4,7 +4,7 @@
 --   next-previous ..               they undo each other, thrice is once round, and the triangle stays
 --   place by-place three           every corner is one of the three
 use mathlib.Core.Logic.{_≢_, _⊎_, inl, inr}
-use mathlib.Core.Path.{_≡_}
+use mathlib.Core.Path.{_∙_, _≡_, ap, sym}
 use Prim.Native.Nat.{_%_, _*_, _+_, _<_, _≤_, ℕ}
 use native.Mathlib.Decide.{ℕ-discrete}
 use native.Mathlib.Omega.{arith}
@@ -66,6 +66,9 @@ triangle-next c = omega arith
 pub triangle-previous : (c : ℕ) → triangle (previous c) ≡ triangle c
 unfolding next previous
 triangle-previous c = omega arith
+
+pub next-injective : (c d : ℕ) → next c ≡ next d → c ≡ d
+next-injective c d h = sym (previous-next c) ∙ ap previous h ∙ previous-next d
 
 -- both stay in their triangle, so on their side of every multiple of 3
 

@@ -6,14 +6,15 @@
 use mathlib.Core.Bool.{Bool, false, true}
 use mathlib.Core.List.{List, [], _++_, _∷_}
 use mathlib.Core.Logic.{_≢_}
-use mathlib.Core.Path.{_≡_, refl}
+use mathlib.Core.Path.{_∙_, _≡_, ap, refl, sym}
 use Prim.Native.Nat.{_*_, _+_, _<_, _≤_, one, suc, zero, ℕ}
 use native.Mathlib.Decide.{decLt, ℕ-discrete}
 use native.Mathlib.Nat.{add-zero, suc-add, zero-add}
 use native.Mathlib.Omega.{arith}
 use lib.Dec.{T, eqb, eqb-refl, eqb→eq}
-use lib.ListN.{length}
+use lib.ListN.{drop, getD, length, take, take-append-drop}
 use Rattle.theory.proofs.Each.{EachN}
+use Rattle.theory.specs.Lists.{front, tail}
 
 -- occurrences
 unfoldable pub bit : Bool → ℕ
@@ -157,3 +158,35 @@ tris-off x (suc n) k h =
     let b = bit-off x (3 * k + 1) (omega arith) in
     let d = bit-off x (3 * k + 2) (omega arith) in
     omega arith
+
+pub count-in : (i : ℕ) (us : List ℕ) → i < length us → 1 ≤ count (getD us i 0) us
+unfolding count
+count-in i [] h = absurd (omega arith)
+count-in zero (u ∷ us) h = let b = bit-refl u in omega arith
+count-in (suc i) (u ∷ us) h = let z = count-in i us (omega arith) in omega arith
+
+pub differ : (us : List ℕ) (i j : ℕ) → ((x : ℕ) → count x us ≤ 1) → i < j → j < length us → getD us i 0 ≢ getD us j 0
+unfolding count
+differ [] i j h p q = absurd (omega arith)
+differ (u ∷ us) i zero h p q = absurd (omega arith)
+differ (u ∷ us) zero (suc j) h p q = λ (o : u ≡ getD us j 0).
+    let a = count-in j us (omega arith) in
+    let m : 1 ≤ count u us = rw o a in
+    let b = bit-refl u in
+    let n = h u in
+    omega arith
+differ (u ∷ us) (suc i) (suc j) h p q = differ us i j (λ x. let n = h x in omega arith) (omega arith) (omega arith)
+
+pub count-front : (x : ℕ) (us : List ℕ) → count x (front us) ≤ count x us
+unfolding count front
+count-front x [] = omega arith
+count-front x (u ∷ []) = omega arith
+count-front x (u ∷ (y ∷ us)) = let i = count-front x (y ∷ us) in omega arith
+
+pub count-tail : (x : ℕ) (us : List ℕ) → count x (tail us) ≤ count x us
+unfolding count tail
+count-tail x [] = omega arith
+count-tail x (u ∷ us) = omega arith
+
+pub count-parts : (x n : ℕ) (us : List ℕ) → count x us ≡ count x (take n us) + count x (drop n us)
+count-parts x n us = sym (ap (count x) (take-append-drop n us)) ∙ count-append x (take n us) (drop n us)

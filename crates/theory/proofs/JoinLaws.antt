@@ -86,6 +86,17 @@ module _ (P : ℕ → ℕ → Type 0) where
       (up (k + 1) a (take (width a - 1) rs) (o .0) (rw (length-take-le (width a - 1) rs (omega arith)) (omega arith)) (each-left P (mates (k + 1) a) (mates (k + 1 + size a) b) m) (i .0))
       (up (k + 1 + size a) b (drop (width a - 1) rs) (o .1) (rw length-drop (omega arith)) (each-right P (mates (k + 1) a) (mates (k + 1 + size a) b) m) (i .1))
 
+-- the last elements of two lists side by side
+pub both-back : (P : ℕ → ℕ → Type 0) (os rs : List ℕ) → 1 ≤ length os → Both P os rs → P (back os) (back rs)
+unfolding back
+both-back P [] rs q h = absurd (omega arith)
+both-back P (o ∷ []) [] q h = absurd h
+both-back P (o ∷ []) (y ∷ []) q h = h .0
+both-back P (o ∷ []) (y ∷ (z ∷ rs)) q h = absurd (h .1)
+both-back P (o ∷ (u ∷ os)) [] q h = absurd h
+both-back P (o ∷ (u ∷ os)) (y ∷ []) q h = absurd (h .1)
+both-back P (o ∷ (u ∷ os)) (y ∷ (z ∷ rs)) q h = both-back P (u ∷ os) (z ∷ rs) (omega arith) (h .1)
+
 -- D2, down: from document 01's joins to the open sides
 module _ (P : ℕ → ℕ → Type 0) where
   pub down : (k : ℕ) (w : Word) (rs : List ℕ) → Sound w → length rs + 1 ≡ width w → Each P (zips k w rs) → Each P (mates k w) × Both P (opens k w) rs

@@ -14,5 +14,17 @@ pub mod Chain
 pub mod JoinLaws
 pub mod Rows
 pub mod TableRows
+pub mod Loops
+pub mod Makers
+pub mod Swings
+pub mod Holds
+pub mod Reaches
+pub mod Homes
+pub mod WalkLetters
+pub mod WalkBack
+pub mod WordSteps
+pub mod WordTables
+pub mod WordRings
+pub mod ReadMesh
 pub mod CallLaws
 pub mod Marked

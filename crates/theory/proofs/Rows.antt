@@ -4,17 +4,13 @@
 --   Edges us rs                    the remembered corners rs stand on the edges of the loop us
 --   agree                          D6: every join of a word joins edges with the same ends
 use mathlib.Core.List.{List, [], _++_, _∷_}
-use mathlib.Core.Logic.{_≢_}
 use mathlib.Core.Path.{_∙_, _≡_, refl, sym}
-use Prim.Native.Nat.{_*_, _+_, _-_, _≤_, one, suc, zero, ℕ}
-use native.Mathlib.Decide.{ℕ-discrete}
+use Prim.Native.Nat.{_*_, _+_, _-_, _≤_, suc, zero, ℕ}
 use native.Mathlib.Omega.{arith}
-use lib.Dec.{eqb}
 use lib.ListN.{drop, getD, length, length-append, length-drop, take}
 use lib.Seq.{length-take-le}
 use Rattle.theory.proofs.Chain.{Each, each-append}
 use Rattle.theory.proofs.CornerLaws.{next-left, next-right, next-tip, previous-left, previous-right, previous-tip}
-use Rattle.theory.proofs.Counting.{bit, bit-off, bit-refl, count, count-append}
 use Rattle.theory.proofs.ListLaws.{back-drop, back-snoc, back-tail, back-take, head-drop, head-front, head-snoc, head-tail, head-take, length-front, length-tail, third}
 use Rattle.theory.proofs.WordLaws.{width-two}
 use Rattle.theory.specs.Corner.{next, previous}
@@ -144,26 +140,3 @@ module _ (lab : ℕ → ℕ) where
         ),
         each-append Agree (zips (k + 1) a (take (width a - 1) rs)) (zips (k + 1 + size a) b (drop (width a - 1) rs)) (i .1) (j .1),
       )
-
-  -- D7: no vertex twice in a triangle, all below the next new one
-  abbrev pub Apart3 : ℕ → Type 0
-  Apart3 k = (lab (3 * k) ≢ lab (3 * k + 1)) × (lab (3 * k + 1) ≢ lab (3 * k + 2)) × (lab (3 * k + 2) ≢ lab (3 * k))
-
-  abbrev pub Loop : ℕ → List ℕ → Type 0
-  Loop nv us = (x : ℕ) → (count x us ≤ 1) × (nv ≤ x → count x us ≡ 0)
-
-  pub loop-c : (nv : ℕ) (us : List ℕ) → Loop nv us → Loop (nv + 1) (us ++ (nv ∷ []))
-  unfolding count
-  loop-c nv us h x = go (ℕ-discrete x nv)
-    where
-      go : Dec (x ≡ nv) → (count x (us ++ (nv ∷ [])) ≤ 1) × (nv + 1 ≤ x → count x (us ++ (nv ∷ [])) ≡ 0)
-      go (yes q) =
-          let a = count-append x us (nv ∷ []) in
-          let z : count x us ≡ 0 = h x .1 (omega arith) in
-          let b : bit (eqb x nv) ≡ 1 = rw (← q) (bit-refl x) in
-          (omega arith, λ m. absurd (omega arith))
-      go (no q) =
-          let a = count-append x us (nv ∷ []) in
-          let b = bit-off x nv q in
-          let i = h x .0 in
-          (omega arith, λ m. let j = h x .1 (omega arith) in omega arith)
