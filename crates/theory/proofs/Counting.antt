@@ -3,6 +3,7 @@
 --   count x l         how often; additive over ++
 --   pigeon            a list whose numbers occur no oftener than in another is no longer than it
 --   tris k n          the corners of the triangles k, .., k + n - 1
+--   differ            two entries of a list without repetition differ
 use mathlib.Core.Bool.{Bool, false, true}
 use mathlib.Core.List.{List, [], _++_, _∷_}
 use mathlib.Core.Logic.{_≢_}

@@ -2,8 +2,8 @@
 -- The ends of a triangle by its bottom edge, its tip by a side joined with an earlier corner, or by the chain lemma D8
 -- read as "swings lead there".
 --
---   left-end      from the left end of a word's first triangle along its open sides
---   Home Homes    a corner, and all corners below 3k, are on the ring of their vertex's maker
+--   left-swings    from the left end of a word's first triangle along its open sides
+--   Home Homes     a corner, and all corners below 3k, are on the ring of their vertex's maker
 use mathlib.Core.List.{List, [], _++_, _∷_}
 use mathlib.Core.Path.{_≡_}
 use Prim.Native.Nat.{_*_, _+_, _-_, _<_, _≤_, ℕ}
@@ -13,7 +13,7 @@ use lib.ListN.{drop, length, take}
 use Rattle.theory.proofs.Chain.{Glue, chain, chain-last, each-map}
 use Rattle.theory.proofs.CornerLaws.{next-low, next-tip, previous-left, previous-low, previous-tip}
 use Rattle.theory.proofs.Each.{EachN, each-back, each-front, each-take}
-use Rattle.theory.proofs.Holds.{Holds, Zipped, holds-C, holds-E, holds-L, holds-R, holds-S}
+use Rattle.theory.proofs.HoldsWord.{HoldsWord, Zipped, holds-C, holds-E, holds-L, holds-R, holds-S}
 use Rattle.theory.proofs.JoinLaws.{Join, both-back, down}
 use Rattle.theory.proofs.ListLaws.{snoc-view}
 use Rattle.theory.proofs.Loops.{Tips}
@@ -28,9 +28,9 @@ use Rattle.theory.specs.Word.{Word, news, size, wC, wE, wL, wR, wS, widt
 
 module _ (opp : ℕ → ℕ) where
   -- the last open side of a word is joined with the last remembered corner
-  pub left-end : (k : ℕ) (w : Word) (rs : List ℕ) → Holds opp k w rs
+  pub left-swings : (k : ℕ) (w : Word) (rs : List ℕ) → HoldsWord opp k w rs
       → (opp (back (opens k w)) ≡ back rs) × To opp (3 * k + 1) (next (back rs))
-  left-end k w rs h =
+  left-swings k w rs h =
       let m = down (Join opp) k w rs (h .sound) (h .long) (h .zipped) in
       let two = width-two w (h .sound) in
       let n = length-opens k w (h .sound) in
@@ -89,7 +89,7 @@ module _ (opp lab home : ℕ → ℕ) (turn-back : (a b : ℕ) → To opp a b �
       move (3 * k) (next x) a (ahead k x (z .1) h l)
 
   -- L and S: along the open sides of the word at right
-  tip-child : (k : ℕ) (a : Word) (rs : List ℕ) → Join opp (3 * k + 1) (3 * (k + 1)) → Holds opp (k + 1) a rs
+  tip-child : (k : ℕ) (a : Word) (rs : List ℕ) → Join opp (3 * k + 1) (3 * (k + 1)) → HoldsWord opp (k + 1) a rs
       → EachN (λ x. x ≤ 3 * k) rs → Homes k → Home (3 * k + 1) → Home (3 * k)
   tip-child k a rs j g lo h l =
       let two = width-two a (g .sound) in
@@ -97,14 +97,14 @@ module _ (opp lab home : ℕ → ℕ) (turn-back : (a b : ℕ) → To opp a b �
       let x = each-back (λ x. x ≤ 3 * k) rs (omega arith) lo in
       let m = 3 * (k + 1) in
       let p : To opp (3 * k) (m + 1) = rw (previous-left, next-tip) at (to-one opp (3 * k + 1) m (j .0)) in
-      let e = to-trans opp (3 * k) (m + 1) (next (back rs)) p (left-end opp (k + 1) a rs g .1) in
+      let e = to-trans opp (3 * k) (m + 1) (next (back rs)) p (left-swings opp (k + 1) a rs g .1) in
       move (3 * k) (next (back rs)) e (ahead k (back rs) x h l)
 
   tip-new : (k nv : ℕ) → home nv ≡ 3 * k → lab (3 * k) ≡ nv → Home (3 * k)
   tip-new k nv p q = rw (q, p) (to-refl opp (3 * k))
 
   -- D9
-  pub homes : (k nv : ℕ) (w : Word) (rs : List ℕ) → Holds opp k w rs → Makers home k nv w → Tips lab k nv w
+  pub homes : (k nv : ℕ) (w : Word) (rs : List ℕ) → HoldsWord opp k w rs → Makers home k nv w → Tips lab k nv w
       → Homes k → Home (3 * k + 1) → Home (3 * k + 2) → Homes (k + size w)
   unfolding size
   homes k nv wE rs h n t u l r =

@@ -17,7 +17,7 @@ pub mod TableRows
 pub mod Loops
 pub mod Makers
 pub mod Swings
-pub mod Holds
+pub mod HoldsWord
 pub mod Reaches
 pub mod Homes
 pub mod WalkLetters

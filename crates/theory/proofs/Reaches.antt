@@ -5,7 +5,7 @@ use Prim.Native.Nat.{_*_, _+_, _-_, ℕ}
 use native.Mathlib.Omega.{arith}
 use lib.ListN.{drop, take}
 use Rattle.theory.proofs.CornerLaws.{triangle-left, triangle-right, triangle-tip}
-use Rattle.theory.proofs.Holds.{Holds, holds-C, holds-L, holds-R, holds-S}
+use Rattle.theory.proofs.HoldsWord.{HoldsWord, holds-C, holds-L, holds-R, holds-S}
 use Rattle.theory.proofs.JoinLaws.{Join}
 use Rattle.theory.proofs.Loops.{Up, up-more}
 use Rattle.theory.specs.Corner.{triangle}
@@ -19,7 +19,7 @@ module _ (opp : ℕ → ℕ) (a0 : ℕ) where
       let t : triangle (opp x) ≡ m = ap (λ (y : ℕ). triangle y) (j .0) ∙ triangle-tip m in
       subst (λ (y : ℕ). Reach opp a0 y) t (over x (subst (λ (y : ℕ). Reach opp a0 y) (sym q) h))
 
-  pub reach : (k : ℕ) (w : Word) (rs : List ℕ) → Holds opp k w rs → Reach opp a0 k → Up (Reach opp a0) k
+  pub reach : (k : ℕ) (w : Word) (rs : List ℕ) → HoldsWord opp k w rs → Reach opp a0 k → Up (Reach opp a0) k
       → Up (Reach opp a0) (k + size w)
   unfolding size
   reach k wE rs h r u = up-more (Reach opp a0) k u r

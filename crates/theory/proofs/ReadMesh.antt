@@ -16,7 +16,7 @@ use borrow.Author.Tests.{eq-eqb, le-ltb, lt-ltb, ne-eqb}
 use Rattle.theory.proofs.CornerLaws.{next-tip, previous-tip}
 use Rattle.theory.proofs.Loops.{Up}
 use Rattle.theory.proofs.Reaches.{reach}
-use Rattle.theory.proofs.WalkBack.{resume, round, wordSteps}
+use Rattle.theory.proofs.WalkBack.{takeLeft, walk-word, wordSteps}
 use Rattle.theory.proofs.WalkLetters.{Visited}
 use Rattle.theory.proofs.WordLaws.{length-spell, size-one, width-news, word-of-spell}
 use Rattle.theory.proofs.WordRings.{all-born, makerOf, rings-of-word}
@@ -67,11 +67,11 @@ module _ (w : Word) (o : Sound w) (q : width w ≡ 2) where
 
   -- with room for size w steps or more
   pub walk-back : (n : ℕ) → walk (vertexOf w) (oppositeOf w) 0 (size w + n) [] [] 0 ≡ wordSteps 0 w
-  unfolding resume
+  unfolding takeLeft
   walk-back n =
       let h = holds-root w o q in
       let v = nothing-visited w in
-      round (vertexOf w) (oppositeOf w) 0 0 2 w (0 ∷ []) h (good w o q .1) [] v n [] [] (λ pre i. refl)
+      walk-word (vertexOf w) (oppositeOf w) 0 0 2 w (0 ∷ []) h (good w o q .1) [] v n [] [] (λ pre i. refl)
       ∙ append-nil (wordSteps 0 w)
 
   pub walk-steps : meshWalk (tableV w) (tableO w) 0 ≡ wordSteps 0 w

@@ -2,7 +2,7 @@
 --
 --   Visited k nv pre        the steps pre visited the triangles below k and marked the vertices below nv
 --   visit-new visit-old     it is kept by a step at 3k, with a new tip and with an old one
---   letter-new letter-old   the letter at 3k, by the tip's number and by the opposites of the two sides
+--   letter-C letter-sides   the letter at 3k, by the tip's number and by the opposites of the two sides
 --   near late               a side that leads back, and one that leads on
 use mathlib.Core.Bool.{Bool, _||_, false, true}
 use mathlib.Core.List.{List, _∷_}
@@ -62,17 +62,17 @@ module _ (lab : ℕ → ℕ) (g : ℕ) where
   visit-old a k nv pre e h = (seen-more k nv pre a h, λ y. rw e (h .1 y))
 
   module _ (opp : ℕ → ℕ) where
-    pub letter-new : (k nv : ℕ) (pre : List Step) → Visited k nv pre → lab (3 * k) ≡ nv
+    pub letter-C : (k nv : ℕ) (pre : List Step) → Visited k nv pre → lab (3 * k) ≡ nv
         → letterAt lab opp g pre (3 * k) ≡ C
     unfolding letterAt
-    letter-new k nv pre h q = rw (h .1 (lab (3 * k)), le-ltb (lab (3 * k)) nv (omega arith))
+    letter-C k nv pre h q = rw (h .1 (lab (3 * k)), le-ltb (lab (3 * k)) nv (omega arith))
 
     -- an old tip: by the opposites of the left and of the right side
-    pub letter-old : (k nv y z : ℕ) (pre : List Step) → Visited k nv pre → lab (3 * k) < nv → opp (3 * k + 2) ≡ y
+    pub letter-sides : (k nv y z : ℕ) (pre : List Step) → Visited k nv pre → lab (3 * k) < nv → opp (3 * k + 2) ≡ y
         → opp (3 * k + 1) ≡ z
         → letterAt lab opp g pre (3 * k) ≡ bySides (ltb (triangle y) (k + 1)) (ltb (triangle z) (k + 1))
     unfolding letterAt
-    letter-old k nv y z pre h q i j =
+    letter-sides k nv y z pre h q i j =
         let old = h .1 (lab (3 * k)) ∙ lt-ltb (lab (3 * k)) nv q in
         let l = seen-more k nv pre E h (opp (previous (3 * k))) in
         let r = seen-more k nv pre E h (opp (next (3 * k))) in

@@ -16,7 +16,7 @@ use lib.ListN.{List·getD-eq-default, length, length-replicate, replicate}
 use Rattle.theory.proofs.Chain.{Each, each-append, each-split, each-two}
 use Rattle.theory.proofs.CornerLaws.{by-place, next-high, next-left, next-right, next-tip, previous-high, previous-tip}
 use Rattle.theory.proofs.Counting.{count, tris-in, tris-off, tris-once}
-use Rattle.theory.proofs.Holds.{Holds}
+use Rattle.theory.proofs.HoldsWord.{HoldsWord}
 use Rattle.theory.proofs.JoinLaws.{Join, each-at, ends-root, joined-at, length-joined}
 use Rattle.theory.proofs.Loops.{Good, Tips, Up, loop-root, rows-good}
 use Rattle.theory.proofs.Opens.{ends}
@@ -78,7 +78,7 @@ module _ (w : Word) (o : Sound w) (q : width w ≡ 2) where
       let n = length-replicate {A = ℕ} (3 * size w) 0 in
       joined-at (joins w) (replicate (3 * size w) 0) once (λ x h. rw n (low x h))
 
-  pub holds-root : Holds (oppositeOf w) 0 w (0 ∷ [])
+  pub holds-root : HoldsWord (oppositeOf w) 0 w (0 ∷ [])
   unfolding joins
   holds-root =
       let h = each-split (Join (oppositeOf w)) (links 0 w) (zips 0 w (0 ∷ [])) held in

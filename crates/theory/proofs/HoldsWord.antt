@@ -1,8 +1,9 @@
--- A table that holds the joins of a word (`Holds`), letter by letter: what it holds at the first triangle, and that it
--- holds the joins of the words behind the letter.
+-- A table that holds the joins of a word, letter by letter: what it holds at the first triangle, and that it holds the
+-- joins of the words behind the letter.
 --
---   Holds opp k w rs   w is sound, rs are the remembered corners of its loop, none behind 3k, and opp has all its joins
---   holds-E .. holds-S the five letters
+--   HoldsWord opp k w rs    w is sound, rs are the remembered corners of its loop, none behind 3k, and opp has its joins
+--   Zipped opp k a x        the side a is joined with the remembered corner x
+--   holds-E .. holds-S      the five letters
 use mathlib.Core.List.{List, [], _++_, _∷_}
 use mathlib.Core.Path.{_≡_}
 use Prim.Native.Nat.{_*_, _+_, _-_, _≤_, ℕ}
@@ -18,7 +19,7 @@ use Rattle.theory.specs.Lists.{back, front, head, tail}
 use Rattle.theory.specs.Tables.{links, zips}
 use Rattle.theory.specs.Word.{Sound, Word, size, wC, wE, wL, wR, wS, width}
 
-pub record Holds (opp : ℕ → ℕ) (k : ℕ) (w : Word) (rs : List ℕ) : Type 0 where
+pub record HoldsWord (opp : ℕ → ℕ) (k : ℕ) (w : Word) (rs : List ℕ) : Type 0 where
   pub sound : Sound w
   pub long : length rs + 1 ≡ width w
   pub low : EachN (λ x. x ≤ 3 * k) rs
@@ -29,11 +30,11 @@ later : (k m : ℕ) (rs : List ℕ) → k ≤ m → EachN (λ x. x ≤ 3 * k) rs
 later k m rs q h = eachN-map (λ x. x ≤ 3 * k) (λ x. x ≤ 3 * m) (λ x i. omega arith) rs h
 
 module _ (opp : ℕ → ℕ) (k : ℕ) where
-  -- the side a is joined with the remembered corner x
   abbrev pub Zipped : ℕ → ℕ → Type 0
   Zipped a x = Join opp a x × (x ≤ 3 * k)
 
-  pub holds-E : (rs : List ℕ) → Holds opp k wE rs → Zipped (3 * k + 1) (head rs) × Zipped (3 * k + 2) (head (tail rs))
+  pub holds-E : (rs : List ℕ) → HoldsWord opp k wE rs
+      → Zipped (3 * k + 1) (head rs) × Zipped (3 * k + 2) (head (tail rs))
   unfolding zips width
   holds-E rs h =
       let n = h .long in
@@ -42,8 +43,8 @@ module _ (opp : ℕ → ℕ) (k : ℕ) where
       ((h .zipped .0, x), (h .zipped .1 .0, y))
 
   module _ (w : Word) (rs : List ℕ) where
-    pub holds-C : Holds opp k (wC w) rs
-        → Join opp (3 * k + 1) (3 * (k + 1)) × Holds opp (k + 1) w (rs ++ ((3 * k + 2) ∷ []))
+    pub holds-C : HoldsWord opp k (wC w) rs
+        → Join opp (3 * k + 1) (3 * (k + 1)) × HoldsWord opp (k + 1) w (rs ++ ((3 * k + 2) ∷ []))
     unfolding links zips width
     holds-C h =
         let two = h .sound .1 in
@@ -59,8 +60,8 @@ module _ (opp : ℕ → ℕ) (k : ℕ) where
           },
         )
 
-    pub holds-L : Holds opp k (wL w) rs
-        → Join opp (3 * k + 1) (3 * (k + 1)) × Zipped (3 * k + 2) (back rs) × Holds opp (k + 1) w (front rs)
+    pub holds-L : HoldsWord opp k (wL w) rs
+        → Join opp (3 * k + 1) (3 * (k + 1)) × Zipped (3 * k + 2) (back rs) × HoldsWord opp (k + 1) w (front rs)
     unfolding links zips width
     holds-L h =
         let two = width-two w (h .sound) in
@@ -78,8 +79,8 @@ module _ (opp : ℕ → ℕ) (k : ℕ) where
           },
         )
 
-    pub holds-R : Holds opp k (wR w) rs
-        → Join opp (3 * k + 2) (3 * (k + 1)) × Zipped (3 * k + 1) (head rs) × Holds opp (k + 1) w (tail rs)
+    pub holds-R : HoldsWord opp k (wR w) rs
+        → Join opp (3 * k + 2) (3 * (k + 1)) × Zipped (3 * k + 1) (head rs) × HoldsWord opp (k + 1) w (tail rs)
     unfolding links zips width
     holds-R h =
         let two = width-two w (h .sound) in
@@ -97,9 +98,9 @@ module _ (opp : ℕ → ℕ) (k : ℕ) where
           },
         )
 
-  pub holds-S : (a b : Word) (rs : List ℕ) → Holds opp k (wS a b) rs
+  pub holds-S : (a b : Word) (rs : List ℕ) → HoldsWord opp k (wS a b) rs
       → Join opp (3 * k + 1) (3 * (k + 1)) × Join opp (3 * k + 2) (3 * (k + 1 + size a))
-      × Holds opp (k + 1) a (take (width a - 1) rs) × Holds opp (k + 1 + size a) b (drop (width a - 1) rs)
+      × HoldsWord opp (k + 1) a (take (width a - 1) rs) × HoldsWord opp (k + 1 + size a) b (drop (width a - 1) rs)
   unfolding links zips width
   holds-S a b rs h =
       let m = k + 1 + size a in
