@@ -109,7 +109,8 @@ place c = go (ℕ-discrete (c % 3) 0) (ℕ-discrete (c % 3) 1)
     go (no h) (no i) = at-right (omega arith)
 
 -- a fact about all corners is one about 3k, 3k+1 and 3k+2
-pub by-place : (P : ℕ → Type 0) → ((k : ℕ) → P (3 * k)) → ((k : ℕ) → P (3 * k + 1)) → ((k : ℕ) → P (3 * k + 2)) → (c : ℕ) → P c
+pub by-place : (P : ℕ → Type 0) → ((k : ℕ) → P (3 * k)) → ((k : ℕ) → P (3 * k + 1)) → ((k : ℕ) → P (3 * k + 2))
+    → (c : ℕ) → P c
 by-place P a b d c = go (place c)
   where
     go : Place c → P c

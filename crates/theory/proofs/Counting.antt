@@ -46,7 +46,8 @@ unfolding less count pick bit
 length-less x [] h = absurd (omega arith)
 length-less x (y ∷ ys) h = go (eqb x y) refl (length-less x ys)
   where
-    go : (b : Bool) → eqb x y ≡ b → (1 ≤ count x ys → length (less x ys) + 1 ≡ length ys) → length (pick (eqb x y) ys (y ∷ less x ys)) + 1 ≡ suc (length ys)
+    go : (b : Bool) → eqb x y ≡ b → (1 ≤ count x ys → length (less x ys) + 1 ≡ length ys)
+        → length (pick (eqb x y) ys (y ∷ less x ys)) + 1 ≡ suc (length ys)
     go true q f = rw q (omega arith)
     go false q f = let i0 = rw q at h in let i : 1 ≤ count x ys = omega arith in let j = f i in rw q (omega arith)
 
@@ -56,7 +57,8 @@ unfolding less count pick bit
 count-less z x [] h = absurd (omega arith)
 count-less z x (y ∷ ys) h = go (eqb x y) refl (count-less z x ys)
   where
-    go : (b : Bool) → eqb x y ≡ b → (1 ≤ count x ys → count z (less x ys) + bit (eqb z x) ≡ count z ys) → count z (pick (eqb x y) ys (y ∷ less x ys)) + bit (eqb z x) ≡ bit (eqb z y) + count z ys
+    go : (b : Bool) → eqb x y ≡ b → (1 ≤ count x ys → count z (less x ys) + bit (eqb z x) ≡ count z ys)
+        → count z (pick (eqb x y) ys (y ∷ less x ys)) + bit (eqb z x) ≡ bit (eqb z y) + count z ys
     go true q f = let w : x ≡ y = eqb→eq x y (rw q tt) in rw (q, w) (omega arith)
     go false q f = let i0 = rw q at h in let i : 1 ≤ count x ys = omega arith in let j = f i in rw q (omega arith)
 
@@ -133,7 +135,8 @@ unfolding tris count
 tris-once x zero k = omega arith
 tris-once x (suc n) k = go (decLt x (3 * (k + 1))) (tris-once x n (k + 1))
   where
-    go : Dec (x < 3 * (k + 1)) → count x (tris (k + 1) n) ≤ 1 → bit (eqb x (3 * k)) + (bit (eqb x (3 * k + 1)) + (bit (eqb x (3 * k + 2)) + count x (tris (k + 1) n))) ≤ 1
+    go : Dec (x < 3 * (k + 1)) → count x (tris (k + 1) n) ≤ 1
+        → bit (eqb x (3 * k)) + (bit (eqb x (3 * k + 1)) + (bit (eqb x (3 * k + 2)) + count x (tris (k + 1) n))) ≤ 1
     go (yes h) z = let i = tris-low x n (k + 1) h in let a = bit-two x (3 * k) (3 * k + 1) (omega arith) in let b = bit-two x (3 * k) (3 * k + 2) (omega arith) in let d = bit-two x (3 * k + 1) (3 * k + 2) (omega arith) in omega arith
     go (no h) z = let a = bit-off x (3 * k) (omega arith) in let b = bit-off x (3 * k + 1) (omega arith) in let d = bit-off x (3 * k + 2) (omega arith) in omega arith
 
@@ -143,7 +146,8 @@ unfolding tris count
 tris-in x zero k h i = absurd (omega arith)
 tris-in x (suc n) k h i = go (ℕ-discrete x (3 * k)) (ℕ-discrete x (3 * k + 1)) (ℕ-discrete x (3 * k + 2)) (tris-in x n (k + 1))
   where
-    go : Dec (x ≡ 3 * k) → Dec (x ≡ 3 * k + 1) → Dec (x ≡ 3 * k + 2) → (3 * (k + 1) ≤ x → x < 3 * (k + 1 + n) → 1 ≤ count x (tris (k + 1) n))
+    go : Dec (x ≡ 3 * k) → Dec (x ≡ 3 * k + 1) → Dec (x ≡ 3 * k + 2)
+        → (3 * (k + 1) ≤ x → x < 3 * (k + 1 + n) → 1 ≤ count x (tris (k + 1) n))
         → 1 ≤ bit (eqb x (3 * k)) + (bit (eqb x (3 * k + 1)) + (bit (eqb x (3 * k + 2)) + count x (tris (k + 1) n)))
     go (yes p) q d f = let u : bit (eqb x (3 * k)) ≡ 1 = rw (← p) (bit-refl x) in omega arith
     go (no p) (yes q) d f = let u : bit (eqb x (3 * k + 1)) ≡ 1 = rw (← q) (bit-refl x) in omega arith

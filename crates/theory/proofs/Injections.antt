@@ -48,7 +48,8 @@ vals-in x (suc n) h = go (ℕ-discrete x n) (vals-in x n)
     go (no p) f = let below : x < n = omega arith in let z = f below in omega arith
 
 -- F2
-pub inj-bound : (g : ℕ → ℕ) (m n : ℕ) → ((i : ℕ) → i < m → g i < n) → ((i j : ℕ) → i < m → j < m → g i ≡ g j → i ≡ j) → m ≤ n
+pub inj-bound : (g : ℕ → ℕ) (m n : ℕ) → ((i : ℕ) → i < m → g i < n) → ((i j : ℕ) → i < m → j < m → g i ≡ g j → i ≡ j)
+    → m ≤ n
 inj-bound g m n lo inj =
     let a = pigeon (vals g m) (vals (λ i. i) n) all-in in
     let b = length-vals g m in
@@ -85,7 +86,8 @@ module _ (g : ℕ → ℕ) (n : ℕ) (lo : (x : ℕ) → x < n → g x < n) (inj
   search x zero = inr (λ i j p q. absurd (omega arith))
   search x (suc m) = go (search x m) (ℕ-discrete (iter g (suc m) x) x)
     where
-      go : _⊎_ ((r : ℕ) × (iter g (suc r) x ≡ x)) (Apart x m) → Dec (iter g (suc m) x ≡ x) → _⊎_ ((r : ℕ) × (iter g (suc r) x ≡ x)) (Apart x (suc m))
+      go : _⊎_ ((r : ℕ) × (iter g (suc r) x ≡ x)) (Apart x m) → Dec (iter g (suc m) x ≡ x)
+          → _⊎_ ((r : ℕ) × (iter g (suc r) x ≡ x)) (Apart x (suc m))
       go (inl z) d = inl z
       go (inr a) (yes p) = inl (m, p)
       go (inr a) (no p) = inr (grow x m p a)
@@ -118,7 +120,8 @@ vals-find f y (suc n) h = go (ℕ-discrete y (f n)) (λ z. vals-find f y n z)
     go (no q) k = let z = bit-off y (f n) q in let m = k (omega arith) in (m .0, omega arith, m .2)
 
 -- F4
-pub onto : (f : ℕ → ℕ) (n : ℕ) → ((i : ℕ) → i < n → f i < n) → ((i j : ℕ) → i < n → j < n → f i ≡ f j → i ≡ j) → (y : ℕ) → y < n → (i : ℕ) × (i < n) × (f i ≡ y)
+pub onto : (f : ℕ → ℕ) (n : ℕ) → ((i : ℕ) → i < n → f i < n) → ((i j : ℕ) → i < n → j < n → f i ≡ f j → i ≡ j)
+    → (y : ℕ) → y < n → (i : ℕ) × (i < n) × (f i ≡ y)
 unfolding count
 onto f n low inj y h = go (decLt 0 (count y (vals f n)))
   where
