@@ -38,9 +38,9 @@ pub each-map : (P Q : ℕ → ℕ → Type 0) (f : (x y : ℕ) → P x y → Q x
 each-map P Q f [] h = tt
 each-map P Q f ((x ⇌ y) ∷ a) h = (f x y (h .0), each-map P Q f a (h .1))
 
-pub each-two : (P Q : ℕ → ℕ → Type 0) (js : List Pair) → Each P js → Each Q js → Each (λ a b. P a b × Q a b) js
-each-two P Q [] h i = tt
-each-two P Q ((a ⇌ b) ∷ js) h i = ((h .0, i .0), each-two P Q js (h .1) (i .1))
+pub each-both : (P Q M : ℕ → ℕ → Type 0) (f : (x y : ℕ) → P x y → Q x y → M x y) (a : List Pair) → Each P a → Each Q a → Each M a
+each-both P Q M f [] h i = tt
+each-both P Q M f ((x ⇌ y) ∷ a) h i = (f x y (h .0) (i .0), each-both P Q M f a (h .1) (i .1))
 
 module _ (To : ℕ → ℕ → Type 0) (rfl : (x : ℕ) → To x x) (trs : (x y z : ℕ) → To x y → To y z → To x z) where
   abbrev pub Glue : ℕ → ℕ → Type 0
@@ -64,7 +64,8 @@ module _ (To : ℕ → ℕ → Type 0) (rfl : (x : ℕ) → To x x) (trs : (x y 
   chain-end x (a ∷ rest) y z h i = (h .0, chain-end (previous a) rest y z (h .1) i)
 
   -- the chain of a child's sides, between its parent's corners
-  child : (x y j : ℕ) (bs : List ℕ) → To (3 * j + 2) x → To y (3 * j + 1) → Chain (3 * j + 2) bs (3 * j + 1) → Chain x bs y
+  child : (x y j : ℕ) (bs : List ℕ) → To (3 * j + 2) x → To y (3 * j + 1) → Chain (3 * j + 2) bs (3 * j + 1)
+      → Chain x bs y
   child x y j bs p q h = chain-end x bs (3 * j + 1) y (chain-join x [] bs (3 * j + 2) (3 * j + 1) p h) q
 
   child-right : (k j : ℕ) (bs : List ℕ) → Glue (3 * k + 1) (3 * j) → Chain (3 * j + 2) bs (3 * j + 1)

@@ -24,7 +24,10 @@ length-vals g (suc m) = ap suc (length-vals g m)
 pub vals-off : (g : ℕ → ℕ) (x m : ℕ) → ((i : ℕ) → i < m → x ≢ g i) → count x (vals g m) ≡ 0
 unfolding vals count
 vals-off g x zero h = refl
-vals-off g x (suc m) h = let a = bit-off x (g m) (h m (omega arith)) in let b = vals-off g x m (λ i q. h i (omega arith)) in omega arith
+vals-off g x (suc m) h =
+    let a = bit-off x (g m) (h m (omega arith)) in
+    let b = vals-off g x m (λ i q. h i (omega arith)) in
+    omega arith
 
 pub vals-once : (g : ℕ → ℕ) (x m : ℕ) → ((i j : ℕ) → i < m → j < m → g i ≡ g j → i ≡ j) → count x (vals g m) ≤ 1
 unfolding vals count
@@ -33,7 +36,8 @@ vals-once g x (suc m) h = go (ℕ-discrete x (g m)) (vals-once g x m (λ i j p q
   where
     go : Dec (x ≡ g m) → count x (vals g m) ≤ 1 → bit (eqb x (g m)) + count x (vals g m) ≤ 1
     go (yes p) z =
-        let a = vals-off g x m (λ i q (o : x ≡ g i). let w = h i m (omega arith) (omega arith) (sym o ∙ p) in omega arith) in
+        let same : (i : ℕ) → i < m → x ≡ g i → i ≡ m = λ i q o. h i m (omega arith) (omega arith) (sym o ∙ p) in
+        let a = vals-off g x m (λ i q (o : x ≡ g i). let w = same i q o in omega arith) in
         let b : bit (eqb x (g m)) ≡ 1 = rw (← p) (bit-refl x) in
         omega arith
     go (no p) z = let a = bit-off x (g m) p in omega arith
@@ -72,6 +76,9 @@ module _ (g : ℕ → ℕ) (n : ℕ) (lo : (x : ℕ) → x < n → g x < n) (inj
   abbrev Apart : ℕ → ℕ → Type 0
   Apart x m = (i j : ℕ) → i < j → j ≤ m → iter g i x ≢ iter g j x
 
+  abbrev Returns : ℕ → Type 0
+  Returns x = (r : ℕ) × (iter g (suc r) x ≡ x)
+
   grow : (x m : ℕ) → iter g (suc m) x ≢ x → Apart x m → Apart x (suc m)
   unfolding iter
   grow x m h a zero j p q = elimJ (decLt m j)
@@ -82,12 +89,11 @@ module _ (g : ℕ → ℕ) (n : ℕ) (lo : (x : ℕ) → x < n → g x < n) (inj
   grow x m h a (suc i) zero p q = absurd (omega arith)
   grow x m h a (suc i) (suc j) p q = λ o. a i j (omega arith) (omega arith) (inj (iter g i x) (iter g j x) o)
 
-  search : (x m : ℕ) → _⊎_ ((r : ℕ) × (iter g (suc r) x ≡ x)) (Apart x m)
+  search : (x m : ℕ) → Returns x ⊎ Apart x m
   search x zero = inr (λ i j p q. absurd (omega arith))
   search x (suc m) = go (search x m) (ℕ-discrete (iter g (suc m) x) x)
     where
-      go : _⊎_ ((r : ℕ) × (iter g (suc r) x ≡ x)) (Apart x m) → Dec (iter g (suc m) x ≡ x)
-          → _⊎_ ((r : ℕ) × (iter g (suc r) x ≡ x)) (Apart x (suc m))
+      go : Returns x ⊎ Apart x m → Dec (iter g (suc m) x ≡ x) → Returns x ⊎ Apart x (suc m)
       go (inl z) d = inl z
       go (inr a) (yes p) = inl (m, p)
       go (inr a) (no p) = inr (grow x m p a)
@@ -96,7 +102,7 @@ module _ (g : ℕ → ℕ) (n : ℕ) (lo : (x : ℕ) → x < n → g x < n) (inj
   pub order : (x : ℕ) → x < n → (r : ℕ) × (iter g (suc r) x ≡ x)
   order x h = go (search x n)
     where
-      go : _⊎_ ((r : ℕ) × (iter g (suc r) x ≡ x)) (Apart x n) → (r : ℕ) × (iter g (suc r) x ≡ x)
+      go : Returns x ⊎ Apart x n → (r : ℕ) × (iter g (suc r) x ≡ x)
       go (inl z) = z
       go (inr a) =
           let b = inj-bound (λ i. iter g i x) (suc n) n (λ i q. iter-lo i x h) (λ i j p q o. same i j p q o) in
@@ -135,7 +141,10 @@ onto f n low inj y h = go (decLt 0 (count y (vals f n)))
             let d = vals-in z n p in
             omega arith
         at (yes p) (no q) = let a = bit-off z y q in let b = vals-once f z n inj in let d = vals-in z n p in omega arith
-        at (no p) q = let a = bit-off z y (λ (o : z ≡ y). omega arith) in let b = vals-off f z n (λ i k (o : z ≡ f i). let u = low i k in omega arith) in omega arith
+        at (no p) q =
+            let a = bit-off z y (λ (o : z ≡ y). omega arith) in
+            let b = vals-off f z n (λ i k (o : z ≡ f i). let u = low i k in omega arith) in
+            omega arith
 
     go : Dec (0 < count y (vals f n)) → (i : ℕ) × (i < n) × (f i ≡ y)
     go (yes m) = vals-find f y n m

@@ -12,7 +12,6 @@ use Prim.Native.Nat.{_*_, _+_, _-_, _<_, _≤_, suc, zero, ℕ}
 use native.Mathlib.Decide.{ℕ-discrete}
 use native.Mathlib.Omega.{arith}
 use lib.Dec.{eqb}
-use lib.Ieee.{fits}
 use lib.ListN.{drop, length, length-append, length-drop, length-set, set, take}
 use lib.Seq.{getD-set-other, getD-set-same, length-take-le}
 use Rattle.theory.proofs.Chain.{Each, each-append, each-split}
@@ -234,8 +233,8 @@ joined-at ((a ⇌ b) ∷ js) o once low =
     let o2 = set (set o a b) b a in
     let pa = joined-off a js o2 (omega arith) ∙ getD-set-other (set o a b) b a a a ne ∙ getD-set-same o a b a la in
     let pb = joined-off b js o2 (omega arith) ∙ getD-set-same (set o a b) b a b lb2 in
-    let fits : (x : ℕ) → 1 ≤ count x (ends js) → x < length o2 = λ x h. rw (length-set, length-set) (low x (omega arith)) in
-    ((pa, pb, ne), joined-at js o2 (λ x. let u = once x in omega arith) fits)
+    let long = length-set (set o a b) b a ∙ length-set o a b in
+    ((pa, pb, ne), joined-at js o2 (λ x. let u = once x in omega arith) (λ x h. rw long (low x (omega arith))))
 
 -- every end of a list of joins has a partner
 pub each-at : (P : ℕ → ℕ → Type 0) → ((x y : ℕ) → P x y → P y x) → (x : ℕ) (js : List Pair) → Each P js

@@ -13,7 +13,6 @@ use Rattle.theory.specs.Corner.{next, vertex}
 use Rattle.theory.specs.Lists.{back, front, head, tail}
 use Rattle.theory.specs.Tables.{vertices}
 use Rattle.theory.specs.Word.{Word, news, size, wC, wE, wL, wR, wS, width}
-use denote.Struct.Rest.{rest}
 
 pub length-vertices : (nv : ℕ) (w : Word) (us : List ℕ) → length (vertices nv w us) ≡ 3 * size w
 unfolding vertices size
@@ -39,7 +38,9 @@ pub at-part : (xs : List ℕ) (n m : ℕ) (part rest : List ℕ) → length part
 at-part xs n m part rest q h = sym (drop-drop m n xs) ∙ ap (drop m) h ∙ rw (← q) (drop-append-seam part rest)
 
 abbrev pub Three : List ℕ → ℕ → ℕ → ℕ → ℕ → List ℕ → Type 0
-Three vt k x y z rest = ((vertex vt (3 * k) ≡ x) × (vertex vt (3 * k + 1) ≡ y) × (vertex vt (3 * k + 2) ≡ z)) × (drop (3 * (k + 1)) vt ≡ rest)
+Three vt k x y z rest =
+    ((vertex vt (3 * k) ≡ x) × (vertex vt (3 * k + 1) ≡ y) × (vertex vt (3 * k + 2) ≡ z))
+    × (drop (3 * (k + 1)) vt ≡ rest)
 
 three-heads : (vt : List ℕ) (k x y z : ℕ) (rest : List ℕ) → drop (3 * k) vt ≡ x ∷ (y ∷ (z ∷ rest))
     → Three vt k x y z rest

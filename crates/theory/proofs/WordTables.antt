@@ -13,7 +13,7 @@ use Prim.Native.Nat.{_*_, _+_, _/_, _<_, _≤_, ℕ}
 use native.Mathlib.Decide.{decLt}
 use native.Mathlib.Omega.{arith}
 use lib.ListN.{List·getD-eq-default, length, length-replicate, replicate}
-use Rattle.theory.proofs.Chain.{Each, each-append, each-split, each-two}
+use Rattle.theory.proofs.Chain.{Each, each-append, each-both, each-split}
 use Rattle.theory.proofs.CornerLaws.{by-place, next-high, next-left, next-right, next-tip, previous-high, previous-tip}
 use Rattle.theory.proofs.Counting.{count, tris-in, tris-off, tris-once}
 use Rattle.theory.proofs.HoldsWord.{HoldsWord}
@@ -93,7 +93,7 @@ module _ (w : Word) (o : Sound w) (q : width w ≡ 2) where
       let J : ℕ → ℕ → Type 0 = Join (oppositeOf w) in
       let a = ends-root x w o q in
       let b = tris-in x (size w) 0 (omega arith) (omega arith) in
-      let both = each-two J P (joins w) held h in
+      let both = each-both J P (λ i j. J i j × P i j) (λ i j a b. (a, b)) (joins w) held h in
       let sides : (i j : ℕ) → J i j × P i j → J j i × P j i = λ i j m. (join-sym i j (m .0), sy i j (m .1)) in
       let z = each-at (λ i j. J i j × P i j) sides x (joins w) both (omega arith) in
       rw (z .1 .0 .0) (z .1 .1, low (z .0) (z .2))
