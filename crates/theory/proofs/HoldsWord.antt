@@ -1,7 +1,7 @@
 -- A table that holds the joins of a word, letter by letter: what it holds at the first triangle, and that it holds the
 -- joins of the words behind the letter.
 --
---   HoldsWord opp k w rs    w is sound, rs are the remembered corners of its loop, none behind 3k, and opp has its joins
+--   HoldsWord opp k w rs    w is sound, rs are its loop's remembered corners, none behind 3k, and opp has its joins
 --   Zipped opp k a x        the side a is joined with the remembered corner x
 --   holds-E .. holds-S      the five letters
 use mathlib.Core.List.{List, [], _++_, _∷_}

@@ -5,7 +5,7 @@
 --   ends js       the corners that some joins join
 --   length-opens  one less than the width
 --   cover         links, mates, open sides and the bottom corner are the corners of the word's triangles, each once
---   opens-low     the open sides stand in the word's triangles
+--   opens-low     the open sides stand in the word's triangles (`Within`)
 use mathlib.Core.List.{List, [], _++_, _∷_}
 use mathlib.Core.Path.{_∙_, _≡_, ap}
 use Prim.Native.Nat.{_*_, _+_, _<_, _≤_, suc, ℕ}
