@@ -1,0 +1,1 @@
+-- Laws of lists first, then one file for each loop.
