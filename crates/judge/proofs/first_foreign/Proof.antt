@@ -1,55 +1,63 @@
+-- `first_foreign` meets its contract: the loop scans forward for the first place where the test for a letter fails.
+-- The measure is what is left of the string.
+use Prim.Native.Nat.{_-_, _≤_}
+use native.Mathlib.Omega.{arith}
+use lib.ListN.{getD, length}
+use borrow.Author.Needs.{needs}
+use Rattle.judge.proofs.Forward.{foreign, ours}
+use Rattle.theory.proofs.LeastLaws.{Before, scan-end, scan-stop, scan-turn}
+use Rattle.theory.specs.Letter.{byte, isLetter}
 use Rattle.judge.proofs.first_foreign.Statement.{statement}
 use Rattle.judge.proofs.first_foreign.Tie as tie
-use Rattle.judge.proofs.first_foreign.Reads as reads
-use Rattle.judge.proofs.first_foreign.Lts as lts
-use Rattle.lent.proofs.byte_of.Reads as byte-of-reads
-use Rattle.lent.proofs.letter_of.Reads as letter-of-reads
 
 abbrev Inv-loop : tie.InvT-loop
-Inv-loop s i₀ i = ?
+Inv-loop s i₀ i = (i ≤ length s) × Before (λ j. isLetter (getD s j 0)) i
 
 abbrev μ-loop : tie.MeasureT-loop
-μ-loop s i₀ i = ?
+μ-loop s i₀ i = length s - i
 
--- src/lib.rt:23:5
 loop-holds : tie.Need-loop-holds Inv-loop μ-loop
-loop-holds c = ?
+loop-holds c = (search needs, λ y h. absurd (omega arith))
 
--- src/lib.rt:24:42
 shared-slice-read-letter-of : tie.Need-shared-slice-read-letter-of Inv-loop μ-loop
-shared-slice-read-letter-of c = ?
+shared-slice-read-letter-of c = search needs
 
--- src/lib.rt:24:26
 letter-of-requires : tie.Need-letter-of-requires Inv-loop μ-loop
-letter-of-requires c κs = ?
+letter-of-requires c κs = search needs
 
--- src/lib.rt:24:12
 byte-of-requires : tie.Need-byte-of-requires Inv-loop μ-loop
-byte-of-requires c κs = ?
+byte-of-requires c κs = search needs
 
--- src/lib.rt:24:52
 shared-slice-read-if1 : tie.Need-shared-slice-read-if1 Inv-loop μ-loop
-shared-slice-read-if1 c = ?
+shared-slice-read-if1 c = search needs
 
--- src/lib.rt:25:13
 returns : tie.Need-returns Inv-loop μ-loop
-returns c = ?
+returns c =
+    let byte = c .before .before in
+    let l = byte .before .before .before .before in
+    let s = l .before .before .args .s .now in
+    let bad = foreign _ _ _ (byte .byte-of .ensures) (byte .before .letter-of .ensures) (c .if1 .taken) in
+    scan-stop (λ j. isLetter (getD s j 0)) (length s) (l .loop .i) (l .loop .inv .1) (search needs) bad
 
--- src/lib.rt:27:9
 add-i : tie.Need-add-i Inv-loop μ-loop
-add-i c = ?
+add-i c = search needs
 
--- src/lib.rt:23:5
 loop-less : tie.Need-loop-less Inv-loop μ-loop
-loop-less c = ?
+loop-less c = search needs
 
--- src/lib.rt:23:5
 loop-again : tie.Need-loop-again Inv-loop μ-loop
-loop-again c = ?
+loop-again c =
+    let byte = c .before .before in
+    let l = byte .before .before .before .before in
+    let s = l .before .before .args .s .now in
+    let good = ours _ _ _ (byte .byte-of .ensures) (byte .before .letter-of .ensures) (c .if1 .left) in
+    (search needs, scan-turn (λ j. isLetter (getD s j 0)) 0 (l .loop .i) (l .loop .inv .1) good)
 
--- src/lib.rt:19:1
 returns-2 : tie.Need-returns-2 Inv-loop μ-loop
-returns-2 c = ?
+returns-2 c =
+    let l = c .before in
+    let s = l .before .before .args .s .now in
+    scan-end (λ j. isLetter (getD s j 0)) (length s) (l .loop .i) (l .loop .inv .1) (l .loop .inv .0) (c .loop-test .left)
 
 pub first-foreign-spec : {M : Type 1} → statement M
 first-foreign-spec =

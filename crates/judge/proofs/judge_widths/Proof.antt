@@ -1,110 +1,104 @@
+-- `judge_widths` meets its contract: the loop passes the letters from the right (`Passing`); what it stops at, or the width
+-- that it ends with, is the answer. The measure is what is left of the string.
+use mathlib.Core.Path.{_∙_, _≡_, ap, refl, sym}
+use Prim.Native.Nat.{_+_, _/_, ℕ}
+use lib.ListN.{length}
+use borrow.Author.Needs.{needs}
+use Rattle.judge.proofs.Passes.{Passing, begins, ends-done, ends-wide, ready, stops, turns}
+use Rattle.theory.specs.Answer.{done}
 use Rattle.judge.proofs.judge_widths.Statement.{statement}
 use Rattle.judge.proofs.judge_widths.Tie as tie
-use Rattle.judge.proofs.judge_widths.Reads as reads
-use Rattle.judge.proofs.judge_widths.Lts as lts
-use Rattle.judge.proofs.pinched.Reads as pinched-reads
-use Rattle.judge.proofs.step.Reads as step-reads
-use Rattle.lent.proofs.accept.Reads as accept-reads
-use Rattle.lent.proofs.refuse.Reads as refuse-reads
-use Rattle.lent.proofs.top.Reads as top-reads
 
 abbrev Inv-loop : tie.InvT-loop
-Inv-loop s work₀ t p₀ i₀ work p i = ?
+Inv-loop s work₀ t p₀ i₀ work p i = (t ≡ length s) × Passing s work₀ work p i
 
 abbrev μ-loop : tie.MeasureT-loop
-μ-loop s work₀ t p₀ i₀ work p i = ?
+μ-loop s work₀ t p₀ i₀ work p i = i
 
--- src/lib.rt:136:5
 loop-holds : tie.Need-loop-holds Inv-loop μ-loop
-loop-holds c = ?
+loop-holds c = (refl, begins (c .before .before .args .s .now) (c .before .before .args .work .now))
 
--- src/lib.rt:137:19
 sub-b : tie.Need-sub-b Inv-loop μ-loop
-sub-b c = ?
+sub-b c = search needs
 
--- src/lib.rt:137:17
 shared-slice-read-b : tie.Need-shared-slice-read-b Inv-loop μ-loop
-shared-slice-read-b c = ?
+shared-slice-read-b c = search needs
 
--- src/lib.rt:138:12
 pinched-requires : tie.Need-pinched-requires Inv-loop μ-loop
-pinched-requires c κs = ?
+pinched-requires c κs = search needs
 
--- src/lib.rt:139:37
 sub-refuse : tie.Need-sub-refuse Inv-loop μ-loop
-sub-refuse c = ?
+sub-refuse c = search needs
 
--- src/lib.rt:139:36
 cast-refuse : tie.Need-cast-refuse Inv-loop μ-loop
-cast-refuse c = ?
+cast-refuse c = search needs
 
--- src/lib.rt:139:13
 refuse-requires : tie.Need-refuse-requires Inv-loop μ-loop
-refuse-requires c κs = ?
+refuse-requires c κs = search needs
 
--- src/lib.rt:139:13
 same-length : tie.Need-same-length Inv-loop μ-loop
-same-length c = ?
+same-length c = search needs
 
--- src/lib.rt:139:13
 returns : tie.Need-returns Inv-loop μ-loop
-returns c = ?
+returns c =
+    let test = c .before .before in
+    let loop = test .before .before .before .before in
+    c .refuse .ensures ∙ stops _ _ _ _ _ (loop .loop .inv .1) (test .before .before .before .loop-test .taken) (sym (test .pinched .ensures) ∙ c .before .if1 .taken)
 
--- src/lib.rt:141:9
 step-requires : tie.Need-step-requires Inv-loop μ-loop
-step-requires c κs = ?
+step-requires c κs =
+    let loop = c .before .before .before .before .before .before in
+    let s = loop .before .before .before in
+    ready _ _ _ _ _ (loop .loop .inv .1) (c .before .before .before .before .before .loop-test .taken) (s .pre .0) (s .pre .1)
 
--- src/lib.rt:142:9
 sub-i : tie.Need-sub-i Inv-loop μ-loop
-sub-i c = ?
+sub-i c = search needs
 
--- src/lib.rt:136:5
 loop-less : tie.Need-loop-less Inv-loop μ-loop
-loop-less c = ?
+loop-less c = search needs
 
--- src/lib.rt:136:5
 loop-again : tie.Need-loop-again Inv-loop μ-loop
-loop-again c = ?
+loop-again c =
+    let step = c .before .before in
+    let test = step .before .before .before in
+    let loop = test .before .before .before .before in
+    let calm = sym (test .pinched .ensures) ∙ step .before .before .if1 .left in
+    (loop .loop .inv .0, turns _ _ _ _ _ (loop .loop .inv .1) (test .before .before .before .loop-test .taken) _ _ (step .step .kept .1 .0) calm (step .step .ensures .0) (step .step .ensures .1))
 
--- src/lib.rt:144:8
 top-requires : tie.Need-top-requires Inv-loop μ-loop
-top-requires c κs = ?
+top-requires c κs = search needs
 
--- src/lib.rt:145:9
 refuse-requires-2 : tie.Need-refuse-requires-2 Inv-loop μ-loop
-refuse-requires-2 c κs = ?
+refuse-requires-2 c κs = search needs
 
--- src/lib.rt:145:9
 same-length-2 : tie.Need-same-length-2 Inv-loop μ-loop
-same-length-2 c = ?
+same-length-2 c = search needs
 
--- src/lib.rt:145:9
 returns-2 : tie.Need-returns-2 Inv-loop μ-loop
-returns-2 c = ?
+returns-2 c =
+    let loop = c .before .before .before .before in
+    c .refuse2 .ensures ∙ ends-wide _ _ _ _ _ (loop .before .loop .inv .1) (loop .loop-test .left) (λ e. c .before .if2 .taken (c .before .before .top .ensures ∙ e))
 
--- src/lib.rt:147:18
 cast-accept : tie.Need-cast-accept Inv-loop μ-loop
-cast-accept c = ?
+cast-accept c = search needs
 
--- src/lib.rt:147:29
 add-accept : tie.Need-add-accept Inv-loop μ-loop
-add-accept c = ?
+add-accept c = search needs
 
--- src/lib.rt:147:28
 cast-accept-2 : tie.Need-cast-accept-2 Inv-loop μ-loop
-cast-accept-2 c = ?
+cast-accept-2 c = search needs
 
--- src/lib.rt:147:5
 accept-requires : tie.Need-accept-requires Inv-loop μ-loop
-accept-requires c κs = ?
+accept-requires c κs = search needs
 
--- src/lib.rt:129:1
 same-length-3 : tie.Need-same-length-3 Inv-loop μ-loop
-same-length-3 c = ?
+same-length-3 c = search needs
 
--- src/lib.rt:129:1
 returns-3 : tie.Need-returns-3 Inv-loop μ-loop
-returns-3 c = ?
+returns-3 c =
+    let loop = c .before .before .before .before in
+    let s = loop .before .before .before .before in
+    c .accept .ensures ∙ ap (λ (t : ℕ). done t (t / 2 + 2)) (loop .before .loop .inv .0) ∙ ends-done _ _ _ _ _ (loop .before .loop .inv .1) (loop .loop-test .left) (sym (c .before .before .top .ensures) ∙ c .before .if2 .left)
 
 pub judge-widths-spec : {M : Type 1} → statement M
 judge-widths-spec =

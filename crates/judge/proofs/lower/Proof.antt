@@ -1,40 +1,34 @@
+-- `lower` meets its contract: the top width less 1; an empty stack stays empty.
+use native.Mathlib.Omega.{arith}
 use borrow.Author.Needs.{needs}
+use Rattle.judge.proofs.Stores.{changes-none, lower-set, lowers-none, top-wide}
+use Rattle.theory.specs.declared.Letter.the-variants.{C}
 use Rattle.judge.proofs.lower.Statement.{statement}
 use Rattle.judge.proofs.lower.Tie as tie
-use Rattle.judge.proofs.lower.Reads as reads
-use Rattle.judge.proofs.lower.Lts as lts
 
--- src/lib.rt:81:19
 mul-work : tie.Need-mul-work
 mul-work c = search needs
 
--- src/lib.rt:81:19
 slice-read-work : tie.Need-slice-read-work
 slice-read-work c = search needs
 
--- src/lib.rt:81:19
 sub-work : tie.Need-sub-work
-sub-work c = ?
+sub-work c = omega (arith, top-wide (c .before .before .args .work .now) (c .before .before .args .p) (c .before .if1 .taken) (c .before .before .pre))
 
--- src/lib.rt:81:9
 mul-work-2 : tie.Need-mul-work-2
 mul-work-2 c = search needs
 
--- src/lib.rt:81:9
 slice-write-work : tie.Need-slice-write-work
 slice-write-work c = search needs
 
--- src/lib.rt:76:1
 same-length : tie.Need-same-length
 same-length c = search needs
 
--- src/lib.rt:76:1
 returns : tie.Need-returns
-returns c = ?
+returns c = lower-set _ _ (c .before .if1 .taken)
 
--- src/lib.rt:76:1
 returns-2 : tie.Need-returns-2
-returns-2 c = ?
+returns-2 c = changes-none _ _ C lowers-none (c .if1 .left)
 
 pub lower-spec : {M : Type 1} → statement M
 lower-spec =
