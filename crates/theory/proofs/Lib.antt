@@ -1,6 +1,7 @@
 -- Laws first, then theorems in the order of dependence.
 pub mod TestLaws
 pub mod LeastLaws
+pub mod GreatestLaws
 pub mod ListLaws
 pub mod Each
 pub mod Counting
