@@ -1,7 +1,7 @@
 -- Laws of `head`, `tail`, `front` and `back`.
 use mathlib.Core.List.{List, [], _++_, _∷_}
 use mathlib.Core.Path.{_≡_, ap, refl}
-use Prim.Native.Nat.{_+_, _-_, _≤_, suc, zero, ℕ}
+use Prim.Native.Nat.{_+_, _-_, _<_, _≤_, suc, zero, ℕ}
 use native.Mathlib.Omega.{arith}
 use lib.ListN.{drop, getD, length, take}
 use Rattle.theory.specs.Lists.{back, front, head, tail}
@@ -50,6 +50,23 @@ back-drop (suc i) [] h = absurd (omega arith)
 back-drop (suc i) (u ∷ []) h = absurd (omega arith)
 back-drop (suc i) (u ∷ (y ∷ us)) h = back-drop i (y ∷ us) (omega arith)
 
+pub back-get : (us : List ℕ) (n : ℕ) → length us ≡ suc n → back us ≡ getD us n 0
+unfolding back
+back-get [] n h = absurd (omega arith)
+back-get (u ∷ []) zero h = refl
+back-get (u ∷ []) (suc n) h = absurd (omega arith)
+back-get (u ∷ (y ∷ us)) zero h = absurd (omega arith)
+back-get (u ∷ (y ∷ us)) (suc n) h = back-get (y ∷ us) n (omega arith)
+
+pub front-get : (us : List ℕ) (n : ℕ) → length us ≡ suc (suc n) → back (front us) ≡ getD us n 0
+unfolding back front
+front-get [] n h = absurd (omega arith)
+front-get (u ∷ []) n h = absurd (omega arith)
+front-get (u ∷ (y ∷ [])) zero h = refl
+front-get (u ∷ (y ∷ [])) (suc n) h = absurd (omega arith)
+front-get (u ∷ (y ∷ (z ∷ us))) zero h = absurd (omega arith)
+front-get (u ∷ (y ∷ (z ∷ us))) (suc n) h = front-get (y ∷ (z ∷ us)) n (omega arith)
+
 pub head-front : (us : List ℕ) → 2 ≤ length us → head (front us) ≡ head us
 unfolding front head
 head-front [] h = refl
@@ -86,3 +103,9 @@ pub length-tail : (us : List ℕ) → 1 ≤ length us → length (tail us) + 1 �
 unfolding tail
 length-tail [] h = absurd (omega arith)
 length-tail (u ∷ us) h = omega arith
+
+-- an entry inside a list does not depend on the default
+pub entry-any : (l : List ℕ) (i d e : ℕ) → i < length l → getD l i d ≡ getD l i e
+entry-any [] i d e h = absurd (omega arith)
+entry-any (x ∷ l) zero d e h = refl
+entry-any (x ∷ l) (suc i) d e h = entry-any l i d e (omega arith)

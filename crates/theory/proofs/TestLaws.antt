@@ -39,6 +39,10 @@ pub not-is-false : (b : Bool) → not b ≡ false → b ≡ true
 not-is-false true e = refl
 not-is-false false e = sym e
 
+pub and-rest : (a b : Bool) → a ≡ true → (a && b) ≡ false → b ≡ false
+and-rest true b p e = e
+and-rest false b p e = absurd (not-both false p refl)
+
 pub or-right : (a b : Bool) → b ≡ true → (a || b) ≡ true
 or-right true b h = refl
 or-right false b h = h
