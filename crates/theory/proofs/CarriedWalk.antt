@@ -1,7 +1,6 @@
 -- A renumbering carries the walk of one mesh to that of the other (`walk-map`): the letters are the same (`same-letters`), and the
 -- walk tables show the renumbering (`by-walk-map`). No rule is needed but that opp and lab stay in range.
 --
---   onward a ..    the steps from x on, once its letter a is known
 --   mapSteps h q   the steps q with their corners carried by h
 use mathlib.Core.List.{List, [], _∷_, map}
 use mathlib.Core.Logic.{_⊎_, inl, inr}
@@ -14,36 +13,16 @@ use borrow.Author.Tests.{eq-eqb, eqb-true}
 use Rattle.theory.proofs.CornerLaws.{next-low, next-previous, previous-low, previous-next, three, triangle-low, triangle-next, triangle-previous}
 use Rattle.theory.proofs.Each.{EachN}
 use Rattle.theory.proofs.TestLaws.{same-test}
+use Rattle.theory.proofs.WalkBack.{onward, takeLeft, walk-step}
 use Rattle.theory.proofs.WholeRun.{cornerOf}
 use Rattle.theory.specs.Corner.{left, next, previous, right, triangle}
 use Rattle.theory.specs.Letter.{byte}
 use Rattle.theory.specs.Lists.{mem}
+use Rattle.theory.specs.Mesh.{here}
 use Rattle.theory.specs.Renumber.{Renumbering, byWalk, turned}
 use Rattle.theory.specs.Walk.{Step, _＠_, cornersOf, letterAt, lettersOf, marks, seen, tips, walk, walkFrom}
 use Rattle.theory.specs.declared.Letter.{Letter}
 use Rattle.theory.specs.declared.Letter.the-variants.{C, E, L, R, S}
-
-unfoldable onward : (ℕ → ℕ) → (List Step → List ℕ → ℕ → List Step) → Letter → List Step → List ℕ → ℕ → List Step
-onward opp f C pre st x = (C ＠ x) ∷ f ((C ＠ x) ∷ pre) st (right opp x)
-onward opp f L pre st x = (L ＠ x) ∷ f ((L ＠ x) ∷ pre) st (right opp x)
-onward opp f E pre [] x = (E ＠ x) ∷ []
-onward opp f E pre (d ∷ st) x = (E ＠ x) ∷ f ((E ＠ x) ∷ pre) st d
-onward opp f R pre st x = (R ＠ x) ∷ f ((R ＠ x) ∷ pre) st (left opp x)
-onward opp f S pre st x = (S ＠ x) ∷ f ((S ＠ x) ∷ pre) (left opp x ∷ st) (right opp x)
-
-walk-step : (lab opp : ℕ → ℕ) (g n : ℕ) (pre : List Step) (st : List ℕ) (x : ℕ)
-    → walk lab opp g (suc n) pre st x ≡ onward opp (walk lab opp g n) (letterAt lab opp g pre x) pre st x
-unfolding walk onward
-walk-step lab opp g n pre st x = go (letterAt lab opp g pre x) refl st
-  where
-    go : (a : Letter) → letterAt lab opp g pre x ≡ a → (st : List ℕ)
-        → walk lab opp g (suc n) pre st x ≡ onward opp (walk lab opp g n) (letterAt lab opp g pre x) pre st x
-    go C h st = rw (h, walk)
-    go L h st = rw (h, walk)
-    go E h [] = rw (h, walk)
-    go E h (d ∷ st) = rw (h, walk)
-    go R h st = rw (h, walk)
-    go S h st = rw (h, walk)
 
 unfoldable mapSteps : (ℕ → ℕ) → List Step → List Step
 mapSteps h [] = []
@@ -155,24 +134,25 @@ module _ {lab opp lab′ opp′ : ℕ → ℕ} {t v g g′ : ℕ} {h a : ℕ →
       → walk lab′ opp′ g′ n (mapSteps h pre) (map h st) (h x) ≡ mapSteps h (walk lab opp g n pre st x)
 
   onward-map : (n : ℕ) → Carried n → (b : Letter) (pre : List Step) (st : List ℕ) (x : ℕ) → Low pre → EachN (λ d. d < 3 * t) st → x < 3 * t
-      → onward opp′ (walk lab′ opp′ g′ n) b (mapSteps h pre) (map h st) (h x) ≡ mapSteps h (onward opp (walk lab opp g n) b pre st x)
-  unfolding onward mapSteps
-  onward-map n f C pre st x l w b = rw (right-map x b, f ((C ＠ x) ∷ pre) st (right opp x) (b, l) w (right-low x b))
-  onward-map n f L pre st x l w b = rw (right-map x b, f ((L ＠ x) ∷ pre) st (right opp x) (b, l) w (right-low x b))
+      → onward lab′ opp′ g′ b n (mapSteps h pre) (map h st) (h x) ≡ mapSteps h (onward lab opp g b n pre st x)
+  unfolding onward takeLeft mapSteps
+  onward-map n f C pre st x l w b = rw (right-map x b, f pre st (right opp x) l w (right-low x b))
+  onward-map n f L pre st x l w b = rw (right-map x b, f pre st (right opp x) l w (right-low x b))
   onward-map n f E pre [] x l w b = refl
-  onward-map n f E pre (d ∷ st) x l w b = rw (f ((E ＠ x) ∷ pre) st d (b, l) (w .1) (w .0))
-  onward-map n f R pre st x l w b = rw (left-map x b, f ((R ＠ x) ∷ pre) st (left opp x) (b, l) w (left-low x b))
+  onward-map n f E pre (d ∷ st) x l w b = f pre st d l (w .1) (w .0)
+  onward-map n f R pre st x l w b = rw (left-map x b, f pre st (left opp x) l w (left-low x b))
   onward-map n f S pre st x l w b =
-      rw (left-map x b, right-map x b, f ((S ＠ x) ∷ pre) (left opp x ∷ st) (right opp x) (b, l) (left-low x b, w) (right-low x b))
+      rw (left-map x b, right-map x b, f pre (left opp x ∷ st) (right opp x) l (left-low x b, w) (right-low x b))
 
   -- I1
   carried : (n : ℕ) → Carried n
   unfolding walk mapSteps
   carried zero pre st x l w b = refl
   carried (suc n) pre st x l w b =
-      let step = walk-step lab′ opp′ g′ n (mapSteps h pre) (map h st) (h x) in
-      let same = ap (λ (y : Letter). onward opp′ (walk lab′ opp′ g′ n) y (mapSteps h pre) (map h st) (h x)) (letter-map pre x l b) in
-      step ∙ same ∙ onward-map n (carried n) (letterAt lab opp g pre x) pre st x l w b ∙ ap (mapSteps h) (sym (walk-step lab opp g n pre st x))
+      let y = letterAt lab opp g pre x in
+      let here = walk-step lab opp g y n pre st x refl in
+      let there = walk-step lab′ opp′ g′ y n (mapSteps h pre) (map h st) (h x) (letter-map pre x l b) in
+      there ∙ ap (λ (q : List Step). (y ＠ h x) ∷ q) (onward-map n (carried n) y ((y ＠ x) ∷ pre) st x (b, l) w b) ∙ ap (mapSteps h) (sym here)
 
   walk-map : walkFrom lab′ opp′ t g′ ≡ mapSteps h (walkFrom lab opp t g)
   unfolding walkFrom mapSteps

@@ -44,9 +44,8 @@ pub mod VertexChain
 pub mod Linked
 pub mod Outward
 pub mod Matched
-pub mod TableJoins
 pub mod WordCloses
-pub mod VertexRange
+pub mod Ranges
 pub mod LoopFits
 pub mod NewVertices
 pub mod Naming

@@ -7,7 +7,7 @@
 --   Worded              a walk whose steps follow a word
 --   faces-turn faces-ends   facing is symmetric; edges that face each other have the same ends
 use mathlib.Core.List.{List, [], _++_, _∷_}
-use mathlib.Core.Path.{_∙_, _≡_, ap, refl, subst, sym}
+use mathlib.Core.Path.{_∙_, _≡_, ap, subst, sym}
 use Prim.Native.Nat.{_*_, _+_, suc, ℕ}
 use native.Mathlib.Nat.{add-zero}
 use native.Mathlib.Numerals.{add-one}
@@ -20,6 +20,7 @@ use Rattle.theory.proofs.Runs.{Follows}
 use Rattle.theory.proofs.SphereLaws.{glued-left}
 use Rattle.theory.proofs.VertexChain.{SameEnds}
 use Rattle.theory.proofs.WholeRun.{Walked}
+use Rattle.theory.proofs.WordSteps.{letters-append}
 use Rattle.theory.specs.Corner.{left, next, previous, right}
 use Rattle.theory.specs.Letter.{byte}
 use Rattle.theory.specs.Mesh.{Sphere}
@@ -28,11 +29,6 @@ use Rattle.theory.specs.Walk.{Step, _＠_, lettersOf}
 use Rattle.theory.specs.Word.{Word, size, spell, wC, wE, wL, wR, wS}
 use Rattle.theory.specs.declared.Letter.{Letter}
 use Rattle.theory.specs.declared.Letter.the-variants.{C, E, L, R, S}
-
-letters-append : (a b : List Step) → lettersOf (a ++ b) ≡ lettersOf a ++ lettersOf b
-unfolding lettersOf
-letters-append [] b = refl
-letters-append ((x ＠ d) ∷ a) b = ap (λ (y : List ℕ). byte x ∷ y) (letters-append a b)
 
 module _ (opp : ℕ → ℕ) where
   pub follows-letters : (w : Word) (x : ℕ) (q : List Step) → Follows opp w x q → lettersOf q ≡ spell w

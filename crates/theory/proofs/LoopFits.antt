@@ -15,9 +15,9 @@ use Rattle.theory.proofs.Chain.{Each, each-left, each-right}
 use Rattle.theory.proofs.CornerLaws.{next-right, next-tip, previous-left, previous-right}
 use Rattle.theory.proofs.ListLaws.{back-take, snoc-view}
 use Rattle.theory.proofs.Opens.{length-opens, mates, opens}
+use Rattle.theory.proofs.Ranges.{Range, range-both, range-first}
 use Rattle.theory.proofs.Rows.{Row, Rows}
 use Rattle.theory.proofs.VertexChain.{Path, SameEnds, open-path}
-use Rattle.theory.proofs.VertexRange.{Range, range-both, range-first}
 use Rattle.theory.proofs.WordLaws.{width-two}
 use Rattle.theory.specs.Corner.{next, previous}
 use Rattle.theory.specs.Lists.{back, front, head, tail}

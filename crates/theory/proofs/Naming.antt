@@ -3,7 +3,7 @@
 --   naming u         the mesh's vertex for the vertex u read back: an end of the gate corner's edge, or the tip of a C
 --   carry-vertex     lab (carry y) = naming (the entry of table V at y)
 --   unnaming         its inverse: a vertex of the mesh is at some corner, and is read back there
-use mathlib.Core.List.{List, [], _∷_, append-nil}
+use mathlib.Core.List.{List, [], _∷_}
 use mathlib.Core.Path.{_∙_, _≡_, ap, sym}
 use Prim.Native.Nat.{_*_, _+_, _<_, suc, ℕ}
 use native.Mathlib.Decide.{decLt}
@@ -13,17 +13,15 @@ use Rattle.theory.proofs.Balanced.{vertex-count}
 use Rattle.theory.proofs.Carry.{carry, carry-uncarry, uncarry, uncarry-low}
 use Rattle.theory.proofs.Chain.{each-map}
 use Rattle.theory.proofs.CornerLaws.{next-tip, previous-tip}
-use Rattle.theory.proofs.Each.{EachN}
 use Rattle.theory.proofs.Injections.{onto}
 use Rattle.theory.proofs.JoinLaws.{Both}
 use Rattle.theory.proofs.Linked.{Faces, Worded, faces-ends}
 use Rattle.theory.proofs.LoopFits.{Fit, Fitted, vertex-named}
 use Rattle.theory.proofs.NewVertices.{names-of, tipsOf}
 use Rattle.theory.proofs.Opens.{mates, opens}
-use Rattle.theory.proofs.TableRows.{rows-of}
 use Rattle.theory.proofs.VertexChain.{SameEnds}
-use Rattle.theory.proofs.VertexRange.{rows-low}
 use Rattle.theory.proofs.WordCloses.{mates-hold, root-open, word-sound, word-two}
+use Rattle.theory.proofs.WordTables.{below-all, rows}
 use Rattle.theory.specs.Corner.{next, previous, vertex}
 use Rattle.theory.specs.Mesh.{Sphere}
 use Rattle.theory.specs.Tables.{links, tableV}
@@ -51,7 +49,7 @@ module _ {lab opp : ℕ → ℕ} {t v g : ℕ} {mesh : Sphere lab opp t v g} {sp
   fit-root (b ∷ (d ∷ os)) h = absurd (h .1)
 
   fitted : Fitted M naming readBack (walk .word) 0 2 (1 ∷ (0 ∷ []))
-  unfolding naming tableV
+  unfolding naming
   fitted =
       let x = walk .word in
       let across = each-map (Faces opp co) (SameEnds M) (faces-ends mesh co) in
@@ -61,7 +59,7 @@ module _ {lab opp : ℕ → ℕ} {t v g : ℕ} {mesh : Sphere lab opp t v g} {sp
         mates-same = across (mates 0 x) (mates-hold walk);
         names = names-of M naming x 0 2 (λ i b. let u : 2 + i ≡ suc (suc i) = omega arith in rw u);
         fit = fit-root (opens 0 x) (root-open walk .1);
-        rows = rows-of (tableV x) 0 2 x (1 ∷ (0 ∷ [])) [] (sym (append-nil (tableV x)));
+        rows = rows x;
       }
 
   pub carry-vertex : (y : ℕ) → y < 3 * t → lab (carry co y) ≡ naming (readBack y)
@@ -75,8 +73,7 @@ module _ {lab opp : ℕ → ℕ} {t v g : ℕ} {mesh : Sphere lab opp t v g} {sp
   pub read-back-low : (y : ℕ) → y < 3 * t → readBack y < v
   read-back-low y b =
       let n = walk .sized in
-      let loop : EachN (λ u. u < 2) (1 ∷ (0 ∷ [])) = (omega arith, (omega arith, tt)) in
-      let a = rows-low readBack (walk .word) 0 2 (1 ∷ (0 ∷ [])) (omega arith) loop (fitted .rows) y (omega arith) (omega arith) in
+      let a = below-all (walk .word) (word-sound walk) (word-two walk) y (omega arith) in
       let d = news-count in
       omega arith
 

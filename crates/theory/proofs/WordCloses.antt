@@ -17,8 +17,8 @@ use Rattle.theory.proofs.Linked.{Faces, Worded, faces-turn}
 use Rattle.theory.proofs.Matched.{Matched, match}
 use Rattle.theory.proofs.Opens.{cover, length-opens, mates, opens}
 use Rattle.theory.proofs.Outward.{Outward, SplitLeft, split-left}
-use Rattle.theory.proofs.TableJoins.{entry-at}
 use Rattle.theory.proofs.WordLaws.{width-two}
+use Rattle.theory.proofs.WordTables.{at-joins}
 use Rattle.theory.specs.Corner.{opposite}
 use Rattle.theory.specs.Mesh.{Sphere}
 use Rattle.theory.specs.Tables.{joins, links, tableO, zips}
@@ -77,4 +77,4 @@ module _ {lab opp : ℕ → ℕ} {t v g : ℕ} {mesh : Sphere lab opp t v g} {sp
   pub carry-opposite : (y : ℕ) → y < 3 * t → opp (carry co y) ≡ carry co (opposite (tableO (walk .word)) y)
   carry-opposite y h =
       let n = walk .sized in
-      entry-at (walk .word) word-sound word-two Meet (faces-turn mesh co) joins-hold y (omega arith)
+      at-joins (walk .word) word-sound word-two Meet (faces-turn mesh co) joins-hold y (omega arith) .0
