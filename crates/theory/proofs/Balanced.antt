@@ -1,8 +1,9 @@
--- E6 (`marks-bound`): every vertex gets marked, so v is at most 2 and the number of Cs. With E5 and Euler's count t + 4 = 2v
--- there are as many Es as Ss and one more (`balanced`, E7): no waiting left is ever skipped. So the walk of document 01 is the
--- run (`literal`), and its steps follow a word (`word-of`).
+-- E6 (`marks-bound`): every vertex gets marked, so v is at most 2 and the number of Cs. With E5 and Euler's count
+-- t + 4 = 2v there are as many Es as Ss and one more (`balanced`, E7): no waiting left is ever skipped. So the walk of
+-- document 01 is the run (`literal`), and its steps follow a word (`word-of`).
 --
--- This is the one file that uses Euler's count; `vertex-count` hands it on to the word.
+-- This is the one file that uses Euler's count; `vertex-count` hands it on to the word. Of rule 13 only that every
+-- vertex has a corner is used (`covered`), here and in `unnaming`.
 use mathlib.Core.List.{List, [], _++_, _∷_, append-nil}
 use mathlib.Core.Logic.{_⊎_, inl, inr}
 use mathlib.Core.Path.{_∙_, _≡_, ap, refl, subst, sym}
@@ -32,7 +33,8 @@ use Rattle.theory.specs.declared.Letter.the-variants.{C, E, L, R, S}
 module _ (lab : ℕ → ℕ) (sp : ℕ → Letter) (co : ℕ → ℕ) where
   -- sides and letters, counted
   counts : (q : List Step) (k : ℕ) → Ahead sp co k q
-      → length (downs sp k (length q)) + 2 * length (tips lab q) + 2 * countS q ≡ length (ups sp k (length q)) + length q + 2 * countE q
+      → length (downs sp k (length q)) + 2 * length (tips lab q) + 2 * countS q
+      ≡ length (ups sp k (length q)) + length q + 2 * countE q
   unfolding tips countS countE upAt downAt ups downs
   counts [] k h = refl
   counts ((C ＠ d) ∷ q) k h =
@@ -61,7 +63,8 @@ module _ (lab : ℕ → ℕ) (sp : ℕ → Letter) (co : ℕ → ℕ) where
       let b = downs-length sp k (length q) S (h .0) in
       omega arith
 
-  tips-has : (q : List Step) (k : ℕ) → Ahead sp co k q → (j : ℕ) → k ≤ j → j < k + length q → sp j ≡ C → 1 ≤ count (lab (co j)) (tips lab q)
+  tips-has : (q : List Step) (k : ℕ) → Ahead sp co k q → (j : ℕ) → k ≤ j → j < k + length q → sp j ≡ C
+      → 1 ≤ count (lab (co j)) (tips lab q)
   unfolding tips count
   tips-has [] k h j a b c = absurd (omega arith)
   tips-has ((x ＠ d) ∷ q) k h j a b c = go x (h .0) (ℕ-discrete j k) (λ z. tips-has q (suc k) (h .2) j z (omega arith) c)
@@ -85,7 +88,8 @@ module _ (lab : ℕ → ℕ) (sp : ℕ → Letter) (co : ℕ → ℕ) where
       go R p (no e) f = f (omega arith)
       go S p (no e) f = f (omega arith)
 
-module _ {lab opp : ℕ → ℕ} {t v g : ℕ} {mesh : Sphere lab opp t v g} {sp : ℕ → Letter} {co : ℕ → ℕ} (w : Walked mesh sp co) where
+module _ {lab opp : ℕ → ℕ} {t v g : ℕ} {mesh : Sphere lab opp t v g} {sp : ℕ → Letter} {co : ℕ → ℕ}
+    (w : Walked mesh sp co) where
   abbrev Marked : ℕ → ℕ → Type 0
   Marked = Mark lab g sp co
 
@@ -123,7 +127,9 @@ module _ {lab opp : ℕ → ℕ} {t v g : ℕ} {mesh : Sphere lab opp t v g} {sp
         has : (u : ℕ) → Marked t u → 1 ≤ count u (lab (next g) ∷ (lab (previous g) ∷ tips lab q))
         has u (inl e) = let b = bit-refl (lab (next g)) in rw e (omega arith)
         has u (inr (inl e)) = let b = bit-refl (lab (previous g)) in rw e (omega arith)
-        has u (inr (inr (j, l, c, e))) = let b = tips-has lab sp co q 0 ahead j (omega arith) (omega arith) c in rw e (omega arith)
+        has u (inr (inr (j, l, c, e))) =
+            let b = tips-has lab sp co q 0 ahead j (omega arith) (omega arith) c in
+            rw e (omega arith)
 
         at : (u : ℕ) → count u (vals (λ i. i) v) ≤ count u (lab (next g) ∷ (lab (previous g) ∷ tips lab q))
         at u = go (decLt u v)
@@ -144,7 +150,8 @@ module _ {lab opp : ℕ → ℕ} {t v g : ℕ} {mesh : Sphere lab opp t v g} {sp
         let f = mesh .euler in
         let len : length q ≡ suc m = n ∙ e in
         let u : length (ups sp 0 (length q)) ≡ length (ups sp 0 (suc m)) = ap (λ (i : ℕ). length (ups sp 0 i)) len in
-        let o : length (downs sp 0 (length q)) ≡ length (downs sp 0 (suc m)) = ap (λ (i : ℕ). length (downs sp 0 i)) len in
+        let o : length (downs sp 0 (length q)) ≡ length (downs sp 0 (suc m)) =
+            ap (λ (i : ℕ). length (downs sp 0 i)) len in
         omega arith
 
 module _ {lab opp : ℕ → ℕ} {t v g : ℕ} (mesh : Sphere lab opp t v g) where

@@ -61,7 +61,8 @@ module _ (lab : ℕ → ℕ) (g : ℕ) (sp : ℕ → Letter) (co : ℕ → ℕ) 
   seen-before ((a ＠ d) ∷ pre) h x q =
       go (or-cases (eqb (triangle x) (triangle d)) (seen pre x) q) (λ u. seen-before pre (h .2) x u)
     where
-      go : (eqb (triangle x) (triangle d) ≡ true) ⊎ (seen pre x ≡ true) → (seen pre x ≡ true → Earlier co (length pre) x)
+      go : (eqb (triangle x) (triangle d) ≡ true) ⊎ (seen pre x ≡ true)
+          → (seen pre x ≡ true → Earlier co (length pre) x)
           → Earlier co (suc (length pre)) x
       go (inl u) f = (length pre, omega arith, eqb-true (triangle x) (triangle d) u ∙ ap triangle (sym (h .1)))
       go (inr u) f = longer co (length pre) (suc (length pre)) x (omega arith) (f u)
@@ -77,12 +78,14 @@ module _ (lab : ℕ → ℕ) (g : ℕ) (sp : ℕ → Letter) (co : ℕ → ℕ) 
           rw (w, eqb-same (triangle d))
       go (no e) f = or-right (eqb (triangle x) (triangle d)) (seen pre x) (f (j, omega arith, u))
 
-  tip-mark : (pre : List Step) → Holds sp co pre → (y : ℕ) → mem y (tips lab pre) ≡ true → TipOfC lab sp co (length pre) y
+  tip-mark : (pre : List Step) → Holds sp co pre → (y : ℕ) → mem y (tips lab pre) ≡ true
+      → TipOfC lab sp co (length pre) y
   unfolding mem tips
   tip-mark [] h y q = absurd (not-both false q refl)
   tip-mark ((C ＠ d) ∷ pre) h y q = go (or-cases (eqb y (lab d)) (mem y (tips lab pre)) q) (λ u. tip-mark pre (h .2) y u)
     where
-      go : (eqb y (lab d) ≡ true) ⊎ (mem y (tips lab pre) ≡ true) → (mem y (tips lab pre) ≡ true → TipOfC lab sp co (length pre) y)
+      go : (eqb y (lab d) ≡ true) ⊎ (mem y (tips lab pre) ≡ true)
+          → (mem y (tips lab pre) ≡ true → TipOfC lab sp co (length pre) y)
           → TipOfC lab sp co (suc (length pre)) y
       go (inl u) f = (length pre, omega arith, h .0, eqb-true y (lab d) u ∙ ap lab (sym (h .1)))
       go (inr u) f = tip-longer (length pre) (suc (length pre)) y (omega arith) (f u)
@@ -91,7 +94,8 @@ module _ (lab : ℕ → ℕ) (g : ℕ) (sp : ℕ → Letter) (co : ℕ → ℕ) 
   tip-mark ((R ＠ d) ∷ pre) h y q = tip-longer (length pre) (suc (length pre)) y (omega arith) (tip-mark pre (h .2) y q)
   tip-mark ((S ＠ d) ∷ pre) h y q = tip-longer (length pre) (suc (length pre)) y (omega arith) (tip-mark pre (h .2) y q)
 
-  pub in-mark : (pre : List Step) → Holds sp co pre → (y : ℕ) → mem y (marks lab g pre) ≡ true → Mark lab g sp co (length pre) y
+  pub in-mark : (pre : List Step) → Holds sp co pre → (y : ℕ) → mem y (marks lab g pre) ≡ true
+      → Mark lab g sp co (length pre) y
   unfolding mem marks
   in-mark pre h y q = go (or-cases (eqb y (lab (next g))) (eqb y (lab (previous g)) || mem y (tips lab pre)) q)
     where
@@ -99,11 +103,13 @@ module _ (lab : ℕ → ℕ) (g : ℕ) (sp : ℕ → Letter) (co : ℕ → ℕ) 
       more (inl u) = inr (inl (eqb-true y (lab (previous g)) u))
       more (inr u) = inr (inr (tip-mark pre h y u))
 
-      go : (eqb y (lab (next g)) ≡ true) ⊎ ((eqb y (lab (previous g)) || mem y (tips lab pre)) ≡ true) → Mark lab g sp co (length pre) y
+      go : (eqb y (lab (next g)) ≡ true) ⊎ ((eqb y (lab (previous g)) || mem y (tips lab pre)) ≡ true)
+          → Mark lab g sp co (length pre) y
       go (inl u) = inl (eqb-true y (lab (next g)) u)
       go (inr u) = more (or-cases (eqb y (lab (previous g))) (mem y (tips lab pre)) u)
 
-  mark-tip : (pre : List Step) → Holds sp co pre → (j : ℕ) → j < length pre → sp j ≡ C → mem (lab (co j)) (tips lab pre) ≡ true
+  mark-tip : (pre : List Step) → Holds sp co pre → (j : ℕ) → j < length pre → sp j ≡ C
+      → mem (lab (co j)) (tips lab pre) ≡ true
   unfolding mem tips
   mark-tip [] h j q u = absurd (omega arith)
   mark-tip ((a ＠ d) ∷ pre) h j q u = go a (h .0) (ℕ-discrete j (length pre)) (λ z. mark-tip pre (h .2) j z u)
@@ -112,9 +118,12 @@ module _ (lab : ℕ → ℕ) (g : ℕ) (sp : ℕ → Letter) (co : ℕ → ℕ) 
       here-C : (b : Letter) → sp (length pre) ≡ b → j ≡ length pre → b ≡ C
       here-C b p z = sym p ∙ ap sp (sym z) ∙ u
 
-      go : (b : Letter) → sp (length pre) ≡ b → Dec (j ≡ length pre) → (j < length pre → mem (lab (co j)) (tips lab pre) ≡ true)
+      go : (b : Letter) → sp (length pre) ≡ b → Dec (j ≡ length pre)
+          → (j < length pre → mem (lab (co j)) (tips lab pre) ≡ true)
           → mem (lab (co j)) (tips lab ((b ＠ d) ∷ pre)) ≡ true
-      go C p (yes z) f = let w : lab (co j) ≡ lab d = ap (λ (i : ℕ). lab (co i)) z ∙ ap lab (h .1) in rw (w, eqb-same (lab d))
+      go C p (yes z) f =
+          let w : lab (co j) ≡ lab d = ap (λ (i : ℕ). lab (co i)) z ∙ ap lab (h .1) in
+          rw (w, eqb-same (lab d))
       go L p (yes z) f = absurd (letters-differ L C refl (here-C L p z))
       go E p (yes z) f = absurd (letters-differ E C refl (here-C E p z))
       go R p (yes z) f = absurd (letters-differ R C refl (here-C R p z))
@@ -125,7 +134,8 @@ module _ (lab : ℕ → ℕ) (g : ℕ) (sp : ℕ → Letter) (co : ℕ → ℕ) 
       go R p (no z) f = f (omega arith)
       go S p (no z) f = f (omega arith)
 
-  pub mark-in : (pre : List Step) → Holds sp co pre → (y : ℕ) → Mark lab g sp co (length pre) y → mem y (marks lab g pre) ≡ true
+  pub mark-in : (pre : List Step) → Holds sp co pre → (y : ℕ) → Mark lab g sp co (length pre) y
+      → mem y (marks lab g pre) ≡ true
   unfolding mem marks
   mark-in pre h y (inl q) = rw (q, eqb-same (lab (next g)))
   mark-in pre h y (inr (inl q)) = or-right (eqb y (lab (next g))) _ (rw (q, eqb-same (lab (previous g))))

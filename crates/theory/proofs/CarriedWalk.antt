@@ -1,5 +1,6 @@
--- A renumbering carries the walk of one mesh to that of the other (`walk-map`): the letters are the same (`same-letters`), and the
--- walk tables show the renumbering (`by-walk-map`). No rule is needed but that opp and lab stay in range.
+-- A renumbering carries the walk of one mesh to that of the other (`walk-map`): the letters are the same
+-- (`same-letters`), and the walk tables show the renumbering (`by-walk-map`). No rule is needed but that opp and lab
+-- stay in range.
 --
 --   mapSteps h q   the steps q with their corners carried by h
 use mathlib.Core.List.{List, [], _∷_, map}
@@ -18,7 +19,6 @@ use Rattle.theory.proofs.WholeRun.{cornerOf}
 use Rattle.theory.specs.Corner.{left, next, previous, right, triangle}
 use Rattle.theory.specs.Letter.{byte}
 use Rattle.theory.specs.Lists.{mem}
-use Rattle.theory.specs.Mesh.{here}
 use Rattle.theory.specs.Renumber.{Renumbering, byWalk, turned}
 use Rattle.theory.specs.Walk.{Step, _＠_, cornersOf, letterAt, lettersOf, marks, seen, tips, walk, walkFrom}
 use Rattle.theory.specs.declared.Letter.{Letter}
@@ -33,14 +33,16 @@ unfolding lettersOf mapSteps
 letters-map h [] = refl
 letters-map h ((a ＠ d) ∷ q) = ap (λ (y : List ℕ). byte a ∷ y) (letters-map h q)
 
-corners-map : (h : ℕ → ℕ) (q : List Step) (k i j : ℕ) → k < length q → getD (cornersOf (mapSteps h q)) k i ≡ h (getD (cornersOf q) k j)
+corners-map : (h : ℕ → ℕ) (q : List Step) (k i j : ℕ) → k < length q
+    → getD (cornersOf (mapSteps h q)) k i ≡ h (getD (cornersOf q) k j)
 unfolding cornersOf mapSteps
 corners-map h [] k i j p = absurd (omega arith)
 corners-map h ((a ＠ d) ∷ q) zero i j p = refl
 corners-map h ((a ＠ d) ∷ q) (suc k) i j p = corners-map h q k i j (omega arith)
 
 eqb-iff : (x y z u : ℕ) → (x ≡ y → z ≡ u) → (z ≡ u → x ≡ y) → eqb x y ≡ eqb z u
-eqb-iff x y z u f k = same-test (eqb x y) (eqb z u) (λ p. eq-eqb z u (f (eqb-true x y p))) (λ p. eq-eqb x y (k (eqb-true z u p)))
+eqb-iff x y z u f k =
+    same-test (eqb x y) (eqb z u) (λ p. eq-eqb z u (f (eqb-true x y p))) (λ p. eq-eqb x y (k (eqb-true z u p)))
 
 module _ {lab opp lab′ opp′ : ℕ → ℕ} {t v g g′ : ℕ} {h a : ℕ → ℕ} (iso : Renumbering lab opp lab′ opp′ t v g g′ h a)
     (low : g < 3 * t) (inside : (c : ℕ) → c < 3 * t → opp c < 3 * t) (below : (c : ℕ) → c < 3 * t → lab c < v) where
@@ -62,8 +64,11 @@ module _ {lab opp lab′ opp′ : ℕ → ℕ} {t v g g′ : ℕ} {h a : ℕ →
     where
       go : (h c ≡ h d) ⊎ ((h c ≡ next (h d)) ⊎ (h c ≡ previous (h d))) → triangle c ≡ triangle d
       go (inl z) = ap triangle (iso .inj c d p q z)
-      go (inr (inl z)) = ap triangle (iso .inj c (next d) p (next-low t d q) (z ∙ sym (iso .turning d q))) ∙ triangle-next d
-      go (inr (inr z)) = ap triangle (iso .inj c (previous d) p (previous-low t d q) (z ∙ sym (previous-map d q))) ∙ triangle-previous d
+      go (inr (inl z)) =
+          ap triangle (iso .inj c (next d) p (next-low t d q) (z ∙ sym (iso .turning d q))) ∙ triangle-next d
+      go (inr (inr z)) =
+          ap triangle (iso .inj c (previous d) p (previous-low t d q) (z ∙ sym (previous-map d q)))
+          ∙ triangle-previous d
 
   abbrev Low : List Step → Type 0
   Low [] = Unit {0}
@@ -73,7 +78,9 @@ module _ {lab opp lab′ opp′ : ℕ → ℕ} {t v g g′ : ℕ} {h a : ℕ →
   unfolding seen mapSteps
   seen-map [] c l b = refl
   seen-map ((x ＠ d) ∷ pre) c l b =
-      let e = eqb-iff (triangle (h c)) (triangle (h d)) (triangle c) (triangle d) (triangle-from c d b (l .0)) (triangle-to c d (l .0)) in
+      let e =
+          eqb-iff (triangle (h c)) (triangle (h d)) (triangle c) (triangle d) (triangle-from c d b (l .0))
+          (triangle-to c d (l .0)) in
       rw (e, seen-map pre c (l .1) b)
 
   eqb-name : (u w : ℕ) → u < v → w < v → eqb (a u) (a w) ≡ eqb u w
@@ -82,7 +89,8 @@ module _ {lab opp lab′ opp′ : ℕ → ℕ} {t v g g′ : ℕ} {h a : ℕ →
   tips-map : (pre : List Step) (u : ℕ) → Low pre → u < v → mem (a u) (tips lab′ (mapSteps h pre)) ≡ mem u (tips lab pre)
   unfolding tips mapSteps mem
   tips-map [] u l b = refl
-  tips-map ((C ＠ d) ∷ pre) u l b = rw (iso .vertex d (l .0), eqb-name u (lab d) b (below d (l .0)), tips-map pre u (l .1) b)
+  tips-map ((C ＠ d) ∷ pre) u l b =
+      rw (iso .vertex d (l .0), eqb-name u (lab d) b (below d (l .0)), tips-map pre u (l .1) b)
   tips-map ((L ＠ d) ∷ pre) u l b = tips-map pre u (l .1) b
   tips-map ((E ＠ d) ∷ pre) u l b = tips-map pre u (l .1) b
   tips-map ((R ＠ d) ∷ pre) u l b = tips-map pre u (l .1) b
@@ -91,7 +99,8 @@ module _ {lab opp lab′ opp′ : ℕ → ℕ} {t v g g′ : ℕ} {h a : ℕ →
   -- the ends of the gate corner's edge
   left-end : lab′ (next g′) ≡ a (lab (next g))
   left-end =
-      ap (λ (c : ℕ). lab′ (next c)) (sym (iso .gate)) ∙ ap lab′ (sym (iso .turning g low)) ∙ iso .vertex (next g) (next-low t g low)
+      ap (λ (c : ℕ). lab′ (next c)) (sym (iso .gate)) ∙ ap lab′ (sym (iso .turning g low))
+      ∙ iso .vertex (next g) (next-low t g low)
 
   right-end : lab′ (previous g′) ≡ a (lab (previous g))
   right-end =
@@ -118,7 +127,8 @@ module _ {lab opp lab′ opp′ : ℕ → ℕ} {t v g g′ : ℕ} {h a : ℕ →
   left-low : (c : ℕ) → c < 3 * t → left opp c < 3 * t
   left-low c b = inside (previous c) (previous-low t c b)
 
-  letter-map : (pre : List Step) (c : ℕ) → Low pre → c < 3 * t → letterAt lab′ opp′ g′ (mapSteps h pre) (h c) ≡ letterAt lab opp g pre c
+  letter-map : (pre : List Step) (c : ℕ) → Low pre → c < 3 * t
+      → letterAt lab′ opp′ g′ (mapSteps h pre) (h c) ≡ letterAt lab opp g pre c
   unfolding letterAt mapSteps
   letter-map pre c l b =
       let p : seen ((E ＠ h c) ∷ mapSteps h pre) (left opp′ (h c)) ≡ seen ((E ＠ c) ∷ pre) (left opp c) =
@@ -133,7 +143,8 @@ module _ {lab opp lab′ opp′ : ℕ → ℕ} {t v g g′ : ℕ} {h a : ℕ →
       (pre : List Step) (st : List ℕ) (x : ℕ) → Low pre → EachN (λ d. d < 3 * t) st → x < 3 * t
       → walk lab′ opp′ g′ n (mapSteps h pre) (map h st) (h x) ≡ mapSteps h (walk lab opp g n pre st x)
 
-  onward-map : (n : ℕ) → Carried n → (b : Letter) (pre : List Step) (st : List ℕ) (x : ℕ) → Low pre → EachN (λ d. d < 3 * t) st → x < 3 * t
+  onward-map : (n : ℕ) → Carried n → (b : Letter) (pre : List Step) (st : List ℕ) (x : ℕ) → Low pre
+      → EachN (λ d. d < 3 * t) st → x < 3 * t
       → onward lab′ opp′ g′ b n (mapSteps h pre) (map h st) (h x) ≡ mapSteps h (onward lab opp g b n pre st x)
   unfolding onward takeLeft mapSteps
   onward-map n f C pre st x l w b = rw (right-map x b, f pre st (right opp x) l w (right-low x b))
@@ -150,9 +161,10 @@ module _ {lab opp lab′ opp′ : ℕ → ℕ} {t v g g′ : ℕ} {h a : ℕ →
   carried zero pre st x l w b = refl
   carried (suc n) pre st x l w b =
       let y = letterAt lab opp g pre x in
-      let here = walk-step lab opp g y n pre st x refl in
-      let there = walk-step lab′ opp′ g′ y n (mapSteps h pre) (map h st) (h x) (letter-map pre x l b) in
-      there ∙ ap (λ (q : List Step). (y ＠ h x) ∷ q) (onward-map n (carried n) y ((y ＠ x) ∷ pre) st x (b, l) w b) ∙ ap (mapSteps h) (sym here)
+      let this = walk-step lab opp g y n pre st x refl in
+      let that = walk-step lab′ opp′ g′ y n (mapSteps h pre) (map h st) (h x) (letter-map pre x l b) in
+      that ∙ ap (λ (q : List Step). (y ＠ h x) ∷ q) (onward-map n (carried n) y ((y ＠ x) ∷ pre) st x (b, l) w b)
+      ∙ ap (mapSteps h) (sym this)
 
   walk-map : walkFrom lab′ opp′ t g′ ≡ mapSteps h (walkFrom lab opp t g)
   unfolding walkFrom mapSteps
@@ -168,8 +180,10 @@ module _ {lab opp lab′ opp′ : ℕ → ℕ} {t v g g′ : ℕ} {h a : ℕ →
   turned-map (suc zero) c b = iso .turning c b
   turned-map (suc (suc i)) c b = previous-map c b
 
-  pub by-walk-map : (n : ℕ) → length (walkFrom lab opp t g) ≡ n → ((k : ℕ) → k < n → cornerOf (walkFrom lab opp t g) k < 3 * t)
-      → (x : ℕ) → x < 3 * n → h (byWalk (cornersOf (walkFrom lab opp t g)) x) ≡ byWalk (cornersOf (walkFrom lab′ opp′ t g′)) x
+  pub by-walk-map : (n : ℕ) → length (walkFrom lab opp t g) ≡ n
+      → ((k : ℕ) → k < n → cornerOf (walkFrom lab opp t g) k < 3 * t)
+      → (x : ℕ) → x < 3 * n
+      → h (byWalk (cornersOf (walkFrom lab opp t g)) x) ≡ byWalk (cornersOf (walkFrom lab′ opp′ t g′)) x
   unfolding byWalk
   by-walk-map n len lo x b =
       let q = walkFrom lab opp t g in

@@ -47,7 +47,8 @@ module _ (co : ℕ → ℕ) where
 
   pub carry-previous : (x : ℕ) → carry co (previous x) ≡ previous (carry co x)
   carry-previous x =
-      sym (previous-next (carry co (previous x))) ∙ ap previous (sym (carry-next (previous x)) ∙ ap (carry co) (next-previous x))
+      sym (previous-next (carry co (previous x)))
+      ∙ ap previous (sym (carry-next (previous x)) ∙ ap (carry co) (next-previous x))
 
   pub carry-triangle : (x : ℕ) → triangle (carry co x) ≡ triangle (co (triangle x))
   carry-triangle = by-place (λ x. triangle (carry co x) ≡ triangle (co (triangle x)))
@@ -68,7 +69,8 @@ by-walk-next cs x = by-walk cs (next x) ∙ carry-next (λ k. getD cs k (3 * k))
 pub by-walk-tip : (cs : List ℕ) (k : ℕ) → byWalk cs (3 * k) ≡ getD cs k (3 * k)
 by-walk-tip cs k = by-walk cs (3 * k) ∙ carry-tip (λ i. getD cs i (3 * i)) k
 
-module _ {lab opp : ℕ → ℕ} {t v g : ℕ} {mesh : Sphere lab opp t v g} {sp : ℕ → Letter} {co : ℕ → ℕ} (w : Walked mesh sp co) where
+module _ {lab opp : ℕ → ℕ} {t v g : ℕ} {mesh : Sphere lab opp t v g} {sp : ℕ → Letter} {co : ℕ → ℕ}
+    (w : Walked mesh sp co) where
   triangle-end : (k : ℕ) → t ≤ k → triangle (co k) ≡ k
   triangle-end k h = ap triangle (w .co-end k h) ∙ triangle-tip k
 
@@ -90,7 +92,9 @@ module _ {lab opp : ℕ → ℕ} {t v g : ℕ} {mesh : Sphere lab opp t v g} {sp
       go (no a) (no b) l d = let x = triangle-end i (omega arith) in let y = triangle-end j (omega arith) in omega arith
 
   pub carry-inj : (x y : ℕ) → carry co x ≡ carry co y → x ≡ y
-  carry-inj x y q = go (three x y (time-inj (triangle x) (triangle y) (sym (carry-triangle co x) ∙ ap triangle q ∙ carry-triangle co y)))
+  carry-inj x y q =
+      go
+      (three x y (time-inj (triangle x) (triangle y) (sym (carry-triangle co x) ∙ ap triangle q ∙ carry-triangle co y)))
     where
       go : (x ≡ y) ⊎ ((x ≡ next y) ⊎ (x ≡ previous y)) → x ≡ y
       go (inl e) = e

@@ -38,7 +38,8 @@ pub each-map : (P Q : ℕ → ℕ → Type 0) (f : (x y : ℕ) → P x y → Q x
 each-map P Q f [] h = tt
 each-map P Q f ((x ⇌ y) ∷ a) h = (f x y (h .0), each-map P Q f a (h .1))
 
-pub each-both : (P Q M : ℕ → ℕ → Type 0) (f : (x y : ℕ) → P x y → Q x y → M x y) (a : List Pair) → Each P a → Each Q a → Each M a
+pub each-both : (P Q M : ℕ → ℕ → Type 0) (f : (x y : ℕ) → P x y → Q x y → M x y) (a : List Pair)
+    → Each P a → Each Q a → Each M a
 each-both P Q M f [] h i = tt
 each-both P Q M f ((x ⇌ y) ∷ a) h i = (f x y (h .0) (i .0), each-both P Q M f a (h .1) (i .1))
 

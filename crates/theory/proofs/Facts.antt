@@ -83,7 +83,8 @@ module _ {lab opp : ℕ → ℕ} {t v g : ℕ} (mesh : Sphere lab opp t v g) (sp
     pub backed : 0 < length pre → Backed (length pre) x
     pub waiting : EachN (Backed (length pre)) st
 
-  module _ {m : ℕ} {pre : List Step} {st : List ℕ} {x : ℕ} {a : Letter} {q : List Step} (p : Here m pre st x ((a ＠ x) ∷ q)) where
+  module _ {m : ℕ} {pre : List Step} {st : List ℕ} {x : ℕ} {a : Letter} {q : List Step}
+      (p : Here m pre st x ((a ＠ x) ∷ q)) where
     at : co (length pre) ≡ x
     at = p .ahead .1
 
@@ -96,7 +97,9 @@ module _ {lab opp : ℕ → ℕ} {t v g : ℕ} (mesh : Sphere lab opp t v g) (sp
       low = rw at low-here;
       unmet = λ w. not-both (seen pre x) (before-seen lab g sp co pre (p .behind) x (rw at at w)) (p .state .unseen);
       bottom = λ b. rw at (p .backed b);
-      marked = λ d w. in-mark lab g sp co pre (p .behind) (lab d) (p .state .marked d (before-seen lab g sp co pre (p .behind) d w));
+      marked =
+          λ d w. in-mark lab g sp co pre (p .behind) (lab d)
+          (p .state .marked d (before-seen lab g sp co pre (p .behind) d w));
       left-end = rw at (in-mark lab g sp co pre (p .behind) (lab (next x)) (p .state .ends .0));
       right-end = rw at (in-mark lab g sp co pre (p .behind) (lab (previous x)) (p .state .ends .1));
       side = subst (Side m (length pre)) (sym (p .ahead .0)) s;
@@ -106,7 +109,14 @@ module _ {lab opp : ℕ → ℕ} {t v g : ℕ} (mesh : Sphere lab opp t v g) (sp
     after : {rest : List ℕ} {y : ℕ} → State mesh ((a ＠ x) ∷ pre) rest y → Backed (suc (length pre)) y
         → EachN (Backed (suc (length pre))) rest → Here m ((a ＠ x) ∷ pre) rest y q
     after s b w = let n = p .total in
-      record { state = s; behind = (p .ahead .0, at, p .behind); ahead = p .ahead .2; total = omega arith; backed = λ z. b; waiting = w }
+      record {
+        state = s;
+        behind = (p .ahead .0, at, p .behind);
+        ahead = p .ahead .2;
+        total = omega arith;
+        backed = λ z. b;
+        waiting = w;
+      }
 
     -- the neighbour of x over one of its sides y has its own bottom neighbour at x
     beside : (y : ℕ) → triangle y ≡ triangle x → Backed (suc (length pre)) (opp y)
@@ -121,7 +131,8 @@ module _ {lab opp : ℕ → ℕ} {t v g : ℕ} (mesh : Sphere lab opp t v g) (sp
     tip w = rw at (in-mark lab g sp co pre (p .behind) (lab x) w)
 
     -- a neighbour that counts as visited was so before: no triangle is its own neighbour
-    earlier : (y : ℕ) → y < 3 * t → triangle y ≡ triangle x → seen ((E ＠ x) ∷ pre) (opp y) ≡ true → Earlier co (length pre) (opp y)
+    earlier : (y : ℕ) → y < 3 * t → triangle y ≡ triangle x → seen ((E ＠ x) ∷ pre) (opp y) ≡ true
+        → Earlier co (length pre) (opp y)
     unfolding seen
     earlier y b e w = go (or-cases (eqb (triangle (opp y)) (triangle x)) (seen pre (opp y)) w)
       where
@@ -138,7 +149,8 @@ module _ {lab opp : ℕ → ℕ} {t v g : ℕ} (mesh : Sphere lab opp t v g) (sp
     later : (y : ℕ) → seen ((E ＠ x) ∷ pre) y ≡ false → Earlier co (suc (length pre)) y → ⊥
     unfolding seen
     later y f w =
-        let b : seen ((a ＠ x) ∷ pre) y ≡ true = before-seen lab g sp co ((a ＠ x) ∷ pre) (p .ahead .0, at, p .behind) y w in
+        let b : seen ((a ＠ x) ∷ pre) y ≡ true =
+            before-seen lab g sp co ((a ＠ x) ∷ pre) (p .ahead .0, at, p .behind) y w in
         not-both (seen ((a ＠ x) ∷ pre) y) b f
 
   -- dropped lefts are visited
@@ -150,21 +162,29 @@ module _ {lab opp : ℕ → ℕ} {t v g : ℕ} (mesh : Sphere lab opp t v g) (sp
 
   -- what each letter says, from its view
   module _ {m : ℕ} {pre : List Step} {st : List ℕ} {x : ℕ} {q : List Step} (n : suc (length pre) < m) where
-    side-C : Here m pre st x ((C ＠ x) ∷ q) → Says mesh pre x C → co (suc (length pre)) ≡ right opp x → Side m (length pre) C
-    side-C p (says-C w) e =
-        ((λ y. not-both (mem (lab x) (marks lab g pre)) (mark-in lab g sp co pre (p .behind) (lab x) (rw (at p) at y)) w), n, rw (at p) e)
+    side-C : Here m pre st x ((C ＠ x) ∷ q) → Says mesh pre x C → co (suc (length pre)) ≡ right opp x
+        → Side m (length pre) C
+    side-C p (says-C w) e = (unmarked, n, rw (at p) e)
+      where
+        unmarked : Marked (length pre) (lab (co (length pre))) → ⊥
+        unmarked y =
+            let z = mark-in lab g sp co pre (p .behind) (lab x) (rw (at p) at y) in
+            not-both (mem (lab x) (marks lab g pre)) z w
 
-    side-L : Here m pre st x ((L ＠ x) ∷ q) → Says mesh pre x L → co (suc (length pre)) ≡ right opp x → Side m (length pre) L
+    side-L : Here m pre st x ((L ＠ x) ∷ q) → Says mesh pre x L → co (suc (length pre)) ≡ right opp x
+        → Side m (length pre) L
     side-L p (says-L w l r) e = (tip p w, left-earlier p l, n, rw (at p) e)
 
-    side-R : Here m pre st x ((R ＠ x) ∷ q) → Says mesh pre x R → co (suc (length pre)) ≡ left opp x → Side m (length pre) R
+    side-R : Here m pre st x ((R ＠ x) ∷ q) → Says mesh pre x R → co (suc (length pre)) ≡ left opp x
+        → Side m (length pre) R
     side-R p (says-R w l r) e = (tip p w, right-earlier p r, n, rw (at p) e)
 
     side-S : Here m pre st x ((S ＠ x) ∷ q) → Says mesh pre x S
         → co (suc (length pre)) ≡ right opp x → Earlier co m (left opp x) → Side m (length pre) S
     side-S p (says-S w l r) e f = (tip p w, (λ y. later p (left opp x) l (rw (at p) at y)), n, rw (at p) e, rw (at p) f)
 
-  side-E : {m : ℕ} {pre : List Step} {st : List ℕ} {x : ℕ} {q : List Step} → Here m pre st x ((E ＠ x) ∷ q) → Says mesh pre x E
+  side-E : {m : ℕ} {pre : List Step} {st : List ℕ} {x : ℕ} {q : List Step} → Here m pre st x ((E ＠ x) ∷ q)
+      → Says mesh pre x E
       → Side m (length pre) E
   side-E p (says-E w l r) = (tip p w, left-earlier p l, right-earlier p r)
 
@@ -192,7 +212,8 @@ module _ {lab opp : ℕ → ℕ} {t v g : ℕ} (mesh : Sphere lab opp t v g) (sp
       let w = says mesh pre x S h in
       let d = headed z (suc (length pre)) (p .ahead .2) in
       let n = p .total in
-      let lefts : EachN (Backed (suc (length pre))) (left opp x ∷ st) = (beside p (previous x) (triangle-previous x), still p) in
+      let lefts : EachN (Backed (suc (length pre))) (left opp x ∷ st) =
+          (beside p (previous x) (triangle-previous x), still p) in
       let r = index z (after p (kept-S mesh (p .state) w) (beside p (next x) (triangle-next x)) lefts) in
       (more p (side-S (omega arith) p w (d .0) (r .1 .0)) (r .0), r .1 .1)
   index {m = m} (resume {pre = pre} {x = x} h dr un z) p =
@@ -201,8 +222,13 @@ module _ {lab opp : ℕ → ℕ} {t v g : ℕ} (mesh : Sphere lab opp t v g) (sp
       let n = p .total in
       let backs = dropped-each mesh (Backed (suc (length pre))) dr (still p) in
       let r = index z (after p (kept-E mesh (p .state) w dr un) (backs .0) (backs .1)) in
-      let lefts = dropped m dr (p .ahead .0, at p, p .behind) (omega arith) ((suc (length pre), omega arith, ap triangle (sym (d .0))), r .1) in
+      let lefts =
+          dropped m dr (p .ahead .0, at p, p .behind) (omega arith)
+          ((suc (length pre), omega arith, ap triangle (sym (d .0))), r .1) in
       (more p (side-E p w) (r .0), lefts)
   index {m = m} (end {pre = pre} {x = x} h dr) p =
       let n = p .total in
-      (more p (side-E p (says mesh pre x E h)) (λ k b f. absurd (omega arith)), dropped m dr (p .ahead .0, at p, p .behind) (omega arith) tt)
+      (
+        more p (side-E p (says mesh pre x E h)) (λ k b f. absurd (omega arith)),
+        dropped m dr (p .ahead .0, at p, p .behind) (omega arith) tt,
+      )

@@ -1,4 +1,5 @@
--- E8: where the steps of a walk follow a word, the letters stand at their places and the word's links face each other in the mesh.
+-- E8: where the steps of a walk follow a word, the letters stand at their places and the word's links face each other
+-- in the mesh.
 --
 --   follows-letters follows-length   the letters of the steps are the word's, as many as its size
 --   Spells sp k x       the letters of the word x stand at the times k, k + 1, ..
@@ -34,9 +35,12 @@ module _ (opp : ℕ → ℕ) where
   pub follows-letters : (w : Word) (x : ℕ) (q : List Step) → Follows opp w x q → lettersOf q ≡ spell w
   unfolding lettersOf spell
   follows-letters wE x q h = ap lettersOf h
-  follows-letters (wC w) x q (q₁, h, k) = ap lettersOf h ∙ ap (λ (y : List ℕ). byte C ∷ y) (follows-letters w (right opp x) q₁ k)
-  follows-letters (wL w) x q (q₁, h, k) = ap lettersOf h ∙ ap (λ (y : List ℕ). byte L ∷ y) (follows-letters w (right opp x) q₁ k)
-  follows-letters (wR w) x q (q₁, h, k) = ap lettersOf h ∙ ap (λ (y : List ℕ). byte R ∷ y) (follows-letters w (left opp x) q₁ k)
+  follows-letters (wC w) x q (q₁, h, k) =
+      ap lettersOf h ∙ ap (λ (y : List ℕ). byte C ∷ y) (follows-letters w (right opp x) q₁ k)
+  follows-letters (wL w) x q (q₁, h, k) =
+      ap lettersOf h ∙ ap (λ (y : List ℕ). byte L ∷ y) (follows-letters w (right opp x) q₁ k)
+  follows-letters (wR w) x q (q₁, h, k) =
+      ap lettersOf h ∙ ap (λ (y : List ℕ). byte R ∷ y) (follows-letters w (left opp x) q₁ k)
   follows-letters (wS a b) x q (q₁, q₂, h, k, m) =
       let i = follows-letters a (right opp x) q₁ k in
       let j = follows-letters b (left opp x) q₂ m in
@@ -103,12 +107,21 @@ module _ (opp : ℕ → ℕ) (sp : ℕ → Letter) (co : ℕ → ℕ) where
       let z = rw h at a in
       let len = follows-length opp x (right opp d) q₁ m in
       let past : suc k + length q₁ ≡ k + 1 + size x = omega arith in
-      let i = subst (Linked x (right opp d)) (sym (add-one k)) (linked x (right opp d) (suc k) q₁ m (ahead-left (suc k) q₁ q₂ (z .2))) in
-      let j = subst (Linked y (left opp d)) past (linked y (left opp d) (suc k + length q₁) q₂ n (ahead-right (suc k) q₁ q₂ (z .2))) in
+      let i =
+          subst (Linked x (right opp d)) (sym (add-one k))
+          (linked x (right opp d) (suc k) q₁ m (ahead-left (suc k) q₁ q₂ (z .2))) in
+      let j =
+          subst (Linked y (left opp d)) past
+          (linked y (left opp d) (suc k + length q₁) q₂ n (ahead-right (suc k) q₁ q₂ (z .2))) in
       let both = each-append (Faces opp co) (links (k + 1) x) (links (k + 1 + size x) y) (i .2) (j .2) in
-      (z .1, (z .0, i .1, j .1), (join-right k (k + 1) d (z .1) (i .0), (join-left k (k + 1 + size x) d (z .1) (j .0), both)))
+      (
+        z .1,
+        (z .0, i .1, j .1),
+        (join-right k (k + 1) d (z .1) (i .0), (join-left k (k + 1 + size x) d (z .1) (j .0), both)),
+      )
 
-pub record Worded {lab opp : ℕ → ℕ} {t v g : ℕ} (mesh : Sphere lab opp t v g) (sp : ℕ → Letter) (co : ℕ → ℕ) : Type 0 where
+pub record Worded {lab opp : ℕ → ℕ} {t v g : ℕ} (mesh : Sphere lab opp t v g) (sp : ℕ → Letter)
+    (co : ℕ → ℕ) : Type 0 where
   pub run : Walked mesh sp co
   pub word : Word
   pub sized : size word ≡ t
@@ -121,7 +134,8 @@ module _ {lab opp : ℕ → ℕ} {t v g : ℕ} (mesh : Sphere lab opp t v g) (co
 
   pub faces-end : (a b : ℕ) → Faces opp co a b → lab (carry co (previous a)) ≡ lab (carry co (next b))
   faces-end a b h =
-      ap lab (carry-previous co a) ∙ glued-left mesh (carry co a) ∙ ap (λ (x : ℕ). lab (next x)) h ∙ ap lab (sym (carry-next co b))
+      ap lab (carry-previous co a) ∙ glued-left mesh (carry co a) ∙ ap (λ (x : ℕ). lab (next x)) h
+      ∙ ap lab (sym (carry-next co b))
 
   pub faces-ends : (a b : ℕ) → Faces opp co a b → SameEnds (λ x. lab (carry co x)) a b
   faces-ends a b h = (faces-end a b h, faces-end b a (faces-turn a b h))

@@ -1,6 +1,6 @@
 -- E2 (`begun`): on an accepted mesh the walk that skips waiting lefts seen meanwhile ends, within t steps.
 --
--- Every step is at a new triangle, so there are at most t of them (`bound`); and while the state holds, the walk can go on.
+-- Every step is at a new triangle, so there are at most t of them (`bound`); while the state holds, the walk can go on.
 use mathlib.Core.Bool.{Bool, false, true}
 use mathlib.Core.List.{List, [], _∷_}
 use mathlib.Core.Logic.{_⊎_, inl, inr}
@@ -106,7 +106,8 @@ module _ {lab opp : ℕ → ℕ} {t v g : ℕ} (mesh : Sphere lab opp t v g) whe
 
   live : (n : ℕ) → Lives n
   live zero pre st x k i = let b = bound ((E ＠ x) ∷ pre) (i .unseen, i .ends .2, i .news) in absurd (omega arith)
-  live (suc n) pre st x k i = advance n (live n) pre st x k i (look mesh pre x .0) (look mesh pre x .1) (look mesh pre x .2)
+  live (suc n) pre st x k i =
+      advance n (live n) pre st x k i (look mesh pre x .0) (look mesh pre x .1) (look mesh pre x .2)
 
   pub begun : Ended t [] [] g
   begun = live t [] [] g (omega arith) (started mesh)

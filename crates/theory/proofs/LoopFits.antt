@@ -1,11 +1,11 @@
--- The loops of document 01, read in the mesh: the vertex that table V has at a corner is the mesh's there (`vertex-named`).
+-- The loops of document 01, read in the mesh: the vertex that table V has at a corner is the mesh's (`vertex-named`).
 --
--- M x is the mesh's vertex at corner x in the walk's numbers, N u the mesh's vertex that stands for the vertex number u of a loop.
+-- M x is the mesh's vertex at corner x in the walk's numbers, N u the mesh's vertex for the vertex number u of a loop.
 -- The loop at the root fits the word's open sides, and every letter hands the fit on to the words behind it.
 --
 --   Fit us bs        the i-th side of bs has the ends N u_i and N u_(i+1)
 --   Names k nv w     N takes the new vertices nv, nv + 1, .. to the tips of the Cs of w
---   tipsOf names-of  the tips of the Cs in order; an N that lists them
+--   Fitted w k nv us what a word and its loop have to do with M, N and a table
 use mathlib.Core.List.{List, [], _++_, _∷_}
 use mathlib.Core.Path.{_∙_, _≡_, ap, sym}
 use Prim.Native.Nat.{_*_, _+_, _-_, _≤_, suc, zero, ℕ}
@@ -40,7 +40,8 @@ module _ (M N : ℕ → ℕ) where
   fit-length (u ∷ (y ∷ us)) (b ∷ bs) h = let i = fit-length (y ∷ us) bs (h .2) in omega arith
 
   -- where the sides are a path from x to y, the loop's ends are those vertices
-  fit-ends : (us bs : List ℕ) (x y : ℕ) → 1 ≤ length bs → Fit us bs → Path M x bs y → (M x ≡ N (head us)) × (M y ≡ N (back us))
+  fit-ends : (us bs : List ℕ) (x y : ℕ) → 1 ≤ length bs → Fit us bs → Path M x bs y
+      → (M x ≡ N (head us)) × (M y ≡ N (back us))
   unfolding head back
   fit-ends [] bs x y n h d = absurd h
   fit-ends (u ∷ []) [] x y n h d = absurd (omega arith)
@@ -77,7 +78,8 @@ module _ (M N : ℕ → ℕ) where
   fit-first (u ∷ []) bs b h = absurd h
   fit-first (u ∷ (y ∷ us)) bs b h = (h .1, h .2)
 
-  fit-split : (i : ℕ) (us xs bs : List ℕ) → length xs ≡ i → Fit us (xs ++ bs) → Fit (take (suc i) us) xs × Fit (drop i us) bs
+  fit-split : (i : ℕ) (us xs bs : List ℕ) → length xs ≡ i → Fit us (xs ++ bs)
+      → Fit (take (suc i) us) xs × Fit (drop i us) bs
   fit-split i [] xs bs n h = absurd h
   fit-split zero (u ∷ us) [] bs n h = (tt, h)
   fit-split zero (u ∷ us) (a ∷ xs) bs n h = absurd (omega arith)
@@ -107,7 +109,8 @@ module _ (M N lab : ℕ → ℕ) where
     pub fit : Fit M N us (opens k w)
     pub rows : Rows lab k nv w us
 
-  ends-at : {w : Word} {k nv : ℕ} {us : List ℕ} → Fitted w k nv us → (M (3 * k + 2) ≡ N (head us)) × (M (3 * k + 1) ≡ N (back us))
+  ends-at : {w : Word} {k nv : ℕ} {us : List ℕ} → Fitted w k nv us
+      → (M (3 * k + 2) ≡ N (head us)) × (M (3 * k + 1) ≡ N (back us))
   ends-at {w = w} {k = k} {us = us} p =
       let n = length-opens k w (p .sound) in
       let two = width-two w (p .sound) in
@@ -134,7 +137,9 @@ module _ (M N lab : ℕ → ℕ) where
         links-same = p .links-same .1;
         mates-same = p .mates-same .1;
         names = p .names .1;
-        fit = rw (snoc-view (opens (k + 1) w) (omega arith)) (fit-snoc M N us (front (opens (k + 1) w)) b nv (p .fit) low high);
+        fit =
+            rw (snoc-view (opens (k + 1) w) (omega arith))
+            (fit-snoc M N us (front (opens (k + 1) w)) b nv (p .fit) low high);
         rows = p .rows .1;
       }
 
@@ -199,8 +204,10 @@ module _ (M N lab : ℕ → ℕ) where
       let one : suc (width a - 1) ≡ width a = omega arith in
       let len = fit-length M N us (opens (k + 1) a ++ opens (k + 1 + size a) b) (p .fit) in
       let both = length-append (opens (k + 1) a) (opens (k + 1 + size a) b) in
-      let last : back (take (width a) us) ≡ getD us (width a - 1) 0 = rw one at (back-take (width a - 1) us (omega arith)) in
-      ap M (sym (previous-left k)) ∙ p .links-same .0 .0 ∙ ap M (next-tip (k + 1)) ∙ ends-at (fitted-S p .0) .1 ∙ ap N last
+      let last : back (take (width a) us) ≡ getD us (width a - 1) 0 =
+          rw one at (back-take (width a - 1) us (omega arith)) in
+      ap M (sym (previous-left k)) ∙ p .links-same .0 .0 ∙ ap M (next-tip (k + 1)) ∙ ends-at (fitted-S p .0) .1
+      ∙ ap N last
 
   pub vertex-named : (w : Word) (k nv : ℕ) (us : List ℕ) → Fitted w k nv us → Range Named k (size w)
   unfolding opens size
@@ -208,14 +215,18 @@ module _ (M N lab : ℕ → ℕ) where
       let i = fit-first M N us ((3 * k + 2) ∷ []) (3 * k + 1) (p .fit) in
       top p 0 (getD us 1 0) (rw (previous-left k) at (i .0)) (p .rows) (λ x a b. absurd (omega arith))
   vertex-named (wC w) k nv us p =
-      top p (size w) nv (sym (p .names .0)) (p .rows .0) (vertex-named w (k + 1) (nv + 1) (us ++ (nv ∷ [])) (fitted-C p))
+      top p (size w) nv (sym (p .names .0)) (p .rows .0)
+      (vertex-named w (k + 1) (nv + 1) (us ++ (nv ∷ [])) (fitted-C p))
   vertex-named (wL w) k nv us p =
       let i = fit-last M N us (opens (k + 1) w) (3 * k + 2) (p .fit) in
-      top p (size w) (back (front us)) (rw (next-right k) at (i .1)) (p .rows .0) (vertex-named w (k + 1) nv (front us) (fitted-L p))
+      top p (size w) (back (front us)) (rw (next-right k) at (i .1)) (p .rows .0)
+      (vertex-named w (k + 1) nv (front us) (fitted-L p))
   vertex-named (wR w) k nv us p =
       let i = fit-first M N us (opens (k + 1) w) (3 * k + 1) (p .fit) in
-      top p (size w) (getD us 1 0) (rw (previous-left k) at (i .0)) (p .rows .0) (vertex-named w (k + 1) nv (tail us) (fitted-R p))
+      top p (size w) (getD us 1 0) (rw (previous-left k) at (i .0)) (p .rows .0)
+      (vertex-named w (k + 1) nv (tail us) (fitted-R p))
   vertex-named (wS a b) k nv us p =
       let i = vertex-named a (k + 1) nv (take (width a) us) (fitted-S p .0) in
       let j = vertex-named b (k + 1 + size a) (nv + news a) (drop (width a - 1) us) (fitted-S p .1) in
-      top p (size a + size b) (getD us (width a - 1) 0) (tip-S p) (p .rows .0) (range-both Named (k + 1) (size a) (size b) i j)
+      top p (size a + size b) (getD us (width a - 1) 0) (tip-S p) (p .rows .0)
+      (range-both Named (k + 1) (size a) (size b) i j)

@@ -1,7 +1,8 @@
--- E10 (`match`): in the word of a walk every C stands before width 3 or more, and its left side faces the last open side behind it.
+-- E10 (`match`): in the word of a walk every C stands before width 3 or more, and its left side faces the last open
+-- side behind it.
 --
---   Matched k w   the word w from time k on is sound, its mates face each other, each of its Cs faces a corner of its own
---                 triangles, and its open sides look outward
+--   Matched k w   the word w from time k on is sound, its mates face each other, each of its Cs faces a corner of the
+--                 word's own triangles, and its open sides look outward
 --
 -- The last open side behind a C starts at the C's tip, and only the C itself has this vertex so far (`found`).
 use mathlib.Core.List.{List, [], _++_, _∷_}
@@ -16,26 +17,24 @@ use Rattle.theory.proofs.Chain.{Each, each-append, each-left, each-map,
 use Rattle.theory.proofs.CornerLaws.{next-left, next-right, next-tip, previous-left, previous-right, previous-tip}
 use Rattle.theory.proofs.Counting.{bit-refl, count, count-append, eachN-absent, tris-once}
 use Rattle.theory.proofs.Each.{EachN, eachN-append, eachN-both, eachN-last, eachN-left, eachN-map}
-use Rattle.theory.proofs.JoinLaws.{down}
 use Rattle.theory.proofs.LetterLaws.{letters-differ}
 use Rattle.theory.proofs.Linked.{Faces, Spells, faces-end, faces-ends, faces-turn}
 use Rattle.theory.proofs.ListLaws.{snoc-view}
-use Rattle.theory.proofs.Opens.{cover, ends, length-opens, mates, opens, opens-low}
+use Rattle.theory.proofs.Opens.{cover, length-opens, mates, opens, opens-low}
 use Rattle.theory.proofs.Outward.{LeftOfC, Outward, SplitLeft, apart-at, fresh-at, out-E, out-L, out-R}
 use Rattle.theory.proofs.VertexChain.{Path, SameEnds, open-path, path-last}
 use Rattle.theory.proofs.WholeRun.{Walked}
 use Rattle.theory.proofs.WordLaws.{width-two}
-use Rattle.theory.specs.Corner.{next, right}
+use Rattle.theory.specs.Corner.{next}
 use Rattle.theory.specs.Lists.{back, front}
 use Rattle.theory.specs.Mesh.{Sphere}
 use Rattle.theory.specs.Tables.{links}
-use Rattle.theory.specs.Walk.{seen}
 use Rattle.theory.specs.Word.{Sound, Word, size, wC, wE, wL, wR, wS, width}
 use Rattle.theory.specs.declared.Letter.{Letter}
 use Rattle.theory.specs.declared.Letter.the-variants.{C, E, L, R, S}
-use types.Run.{first}
 
-module _ {lab opp : ℕ → ℕ} {t v g : ℕ} {mesh : Sphere lab opp t v g} {sp : ℕ → Letter} {co : ℕ → ℕ} (run : Walked mesh sp co)
+module _ {lab opp : ℕ → ℕ} {t v g : ℕ} {mesh : Sphere lab opp t v g} {sp : ℕ → Letter} {co : ℕ → ℕ}
+    (run : Walked mesh sp co)
     (lefts : SplitLeft opp sp co 0 t) where
   -- the vertex at a corner in the walk's numbers
   abbrev at : ℕ → ℕ
@@ -108,11 +107,13 @@ module _ {lab opp : ℕ → ℕ} {t v g : ℕ} {mesh : Sphere lab opp t v g} {sp
       go (no m) = omega arith
 
   -- with no further open side the two ends of the C's edge were one vertex
-  wide : (k b : ℕ) (bs : List ℕ) → sp k ≡ C → Path at (3 * (k + 1) + 2) bs (next b) → Meet b (3 * k + 2) → Meet (3 * k + 1) (3 * (k + 1))
+  wide : (k b : ℕ) (bs : List ℕ) → sp k ≡ C → Path at (3 * (k + 1) + 2) bs (next b) → Meet b (3 * k + 2)
+      → Meet (3 * k + 1) (3 * (k + 1))
       → 1 ≤ length bs
   wide k b [] c h jn g0 =
       let a : at (3 * k + 1) ≡ at (next b) = rw previous-right at (faces-ends mesh co b (3 * k + 2) jn .1) in
-      let d : at (3 * (k + 1) + 2) ≡ at (3 * k + 2) = rw (previous-tip, next-left) at (faces-ends mesh co (3 * k + 1) (3 * (k + 1)) g0 .1) in
+      let d : at (3 * (k + 1) + 2) ≡ at (3 * k + 2) =
+          rw (previous-tip, next-left) at (faces-ends mesh co (3 * k + 1) (3 * (k + 1)) g0 .1) in
       absurd (apart-at run k c (a ∙ h ∙ d))
   wide k b (x ∷ xs) c h jn g0 = omega arith
 
@@ -126,50 +127,66 @@ module _ {lab opp : ℕ → ℕ} {t v g : ℕ} {mesh : Sphere lab opp t v g} {sp
       let z = bit-refl b in
       eachN-absent b bs (omega arith)
 
-  module _ (k : ℕ) (w : Word) (c : sp k ≡ C) (first : Meet (3 * k + 1) (3 * (k + 1)))
+  module _ (k : ℕ) (w : Word) (c : sp k ≡ C) (begins : Meet (3 * k + 1) (3 * (k + 1)))
       (face : Each Meet (links (k + 1) w)) (i : Matched (k + 1) w) where
     -- the open sides behind the C are bs and then b
     close-at : (bs : List ℕ) (b : ℕ) → opens (k + 1) w ≡ bs ++ (b ∷ [])
         → (3 ≤ width w) × Meet b (3 * k + 2) × (b < 3 * (k + 1 + size w)) × EachN (Out k) bs
     close-at bs b e =
         let across = each-map Meet (SameEnds at) (faces-ends mesh co) in
-        let path = open-path at (k + 1) w (i .sound) (across (links (k + 1) w) face) (across (mates (k + 1) w) (i .mates-face)) in
-        let ends = path-last at (3 * (k + 1) + 2) bs b (3 * (k + 1) + 1) (rw e at path) in
+        let path =
+            open-path at (k + 1) w (i .sound) (across (links (k + 1) w) face)
+            (across (mates (k + 1) w) (i .mates-face)) in
+        let last = path-last at (3 * (k + 1) + 2) bs b (3 * (k + 1) + 1) (rw e at path) in
         let o = eachN-last (Out (k + 1)) bs b (rw e at (i .opens-out)) in
-        let tip : at (3 * k) ≡ at (3 * (k + 1) + 1) = rw (previous-left, next-tip) at (faces-end mesh co (3 * k + 1) (3 * (k + 1)) first) in
-        let y = found k (o .0) c (o .2) (o .3) (tip ∙ ends .1 ∙ faces-end mesh co b (o .0) (o .1)) in
+        let tip : at (3 * k) ≡ at (3 * (k + 1) + 1) =
+            rw (previous-left, next-tip) at (faces-end mesh co (3 * k + 1) (3 * (k + 1)) begins) in
+        let y = found k (o .0) c (o .2) (o .3) (tip ∙ last .1 ∙ faces-end mesh co b (o .0) (o .1)) in
         let jn : Meet b (3 * k + 2) = o .1 ∙ ap (carry co) y in
-        let big = wide k b bs c (ends .0) jn first in
+        let big = wide k b bs c (last .0) jn begins in
         let n = length-opens (k + 1) w (i .sound) in
         let m = ap length e ∙ length-append bs (b ∷ []) in
-        let lo = eachN-last (λ x. (3 * (k + 1) < x) × (x < 3 * (k + 1 + size w))) bs b (rw e at (opens-low (k + 1) w (i .sound))) in
+        let lo =
+            eachN-last
+            (λ x. (3 * (k + 1) < x) × (x < 3 * (k + 1 + size w))) bs b (rw e at (opens-low (k + 1) w (i .sound))) in
         let rest = eachN-left (Out (k + 1)) bs (b ∷ []) (rw e at (i .opens-out)) in
-        (omega arith, jn, lo .1, eachN-both (Out (k + 1)) (λ x. x ≢ b) (Out k) (λ x p ne. down x b jn p ne) bs rest (lone (k + 1) w bs b e (i .sound)))
+        (
+          omega arith,
+          jn,
+          lo .1,
+          eachN-both (Out (k + 1)) (λ x. x ≢ b) (Out k)
+          (λ x p ne. below x b jn p ne) bs rest (lone (k + 1) w bs b e (i .sound)),
+        )
       where
-        down : (x b : ℕ) → Meet b (3 * k + 2) → Out (k + 1) x → x ≢ b → Out k x
-        down x b jn p ne = lower k (k + 1) x p (λ j a d q f. let m : j ≡ k = omega arith in ne (meet-inj x b (3 * k + 2) (rw m at f) jn))
+        below : (x b : ℕ) → Meet b (3 * k + 2) → Out (k + 1) x → x ≢ b → Out k x
+        below x b jn p ne =
+            lower k (k + 1) x p
+            (λ j a d q f. let m : j ≡ k = omega arith in ne (meet-inj x b (3 * k + 2) (rw m at f) jn))
 
     close : Matched k (wC w)
     unfolding mates opens size
-    close = go (close-at (front (opens (k + 1) w)) (back (opens (k + 1) w)) seen)
+    close = go (close-at (front (opens (k + 1) w)) (back (opens (k + 1) w)) parts)
       where
-        seen : opens (k + 1) w ≡ front (opens (k + 1) w) ++ (back (opens (k + 1) w) ∷ [])
-        seen =
+        parts : opens (k + 1) w ≡ front (opens (k + 1) w) ++ (back (opens (k + 1) w) ∷ [])
+        parts =
             let n = length-opens (k + 1) w (i .sound) in
             let two = width-two w (i .sound) in
             snoc-view (opens (k + 1) w) (omega arith)
 
         go : (3 ≤ width w) × Meet (back (opens (k + 1) w)) (3 * k + 2) × (back (opens (k + 1) w) < 3 * (k + 1 + size w))
             × EachN (Out k) (front (opens (k + 1) w)) → Matched k (wC w)
-        go z = record {
+        go z =
+          let b = back (opens (k + 1) w) in
+          record {
           sound = (i .sound, z .0);
           mates-face = (z .1, i .mates-face);
-          inner = inner-first k (size w) (λ q. (back (opens (k + 1) w), faces-turn mesh co (back (opens (k + 1) w)) (3 * k + 2) (z .1), omega arith)) (i .inner);
+          inner = inner-first k (size w) (λ q. (b, faces-turn mesh co b (3 * k + 2) (z .1), omega arith)) (i .inner);
           opens-out = z .3;
         }
 
   -- an open side of the left branch faces no C of the right branch
-  over : (k : ℕ) (a : Word) (x : ℕ) → (sp k ≡ C → ⊥) → Inner (k + 1) (size a) → Out (k + 1 + size a) x → 3 * (k + 1 + size a) < x → Out k x
+  over : (k : ℕ) (a : Word) (x : ℕ) → (sp k ≡ C → ⊥) → Inner (k + 1) (size a) → Out (k + 1 + size a) x
+      → 3 * (k + 1 + size a) < x → Out k x
   over k a x no-c i o lo = lower k (k + 1 + size a) x o (λ j p q c f. go j p q c f (ℕ-discrete j k))
     where
       go : (j : ℕ) → k ≤ j → j < k + 1 + size a → sp j ≡ C → Meet x (3 * j + 2) → Dec (j ≡ k) → ⊥
@@ -197,7 +214,9 @@ module _ {lab opp : ℕ → ℕ} {t v g : ℕ} {mesh : Sphere lab opp t v g} {sp
         sound = i .sound;
         mates-face = i .mates-face;
         inner = inner-first k (size w) (λ q. absurd (no-c q)) (i .inner);
-        opens-out = eachN-append (Out k) os ((3 * k + 2) ∷ []) (lower-all k os no-c (i .opens-out)) (out-L run lefts k (s .0), tt);
+        opens-out =
+            eachN-append (Out k) os ((3 * k + 2) ∷ []) (lower-all k os no-c (i .opens-out))
+            (out-L run lefts k (s .0), tt);
       }
   match k (wR w) s g =
       let i = match (k + 1) w (s .1) (g .1) in
@@ -210,15 +229,20 @@ module _ {lab opp : ℕ → ℕ} {t v g : ℕ} {mesh : Sphere lab opp t v g} {sp
       }
   match k (wS a b) s g =
       let i = match (k + 1) a (s .1) (each-left Meet (links (k + 1) a) (links (k + 1 + size a) b) (g .1 .1)) in
-      let d = match (k + 1 + size a) b (s .2) (each-right Meet (links (k + 1) a) (links (k + 1 + size a) b) (g .1 .1)) in
+      let d =
+          match (k + 1 + size a) b (s .2) (each-right Meet (links (k + 1) a) (links (k + 1 + size a) b) (g .1 .1)) in
       let no-c : sp k ≡ C → ⊥ = λ q. letters-differ S C refl (sym (s .0) ∙ q) in
       let oa = opens (k + 1) a in
       let ob = opens (k + 1 + size a) b in
-      let right = eachN-both (Out (k + 1 + size a)) (λ x. (3 * (k + 1 + size a) < x) × (x < 3 * (k + 1 + size a + size b))) (Out k)
+      let behind =
+          eachN-both (Out (k + 1 + size a))
+          (λ x. (3 * (k + 1 + size a) < x) × (x < 3 * (k + 1 + size a + size b))) (Out k)
           (λ x o u. over k a x no-c (i .inner) o (u .0)) ob (d .opens-out) (opens-low (k + 1 + size a) b (d .sound)) in
       record {
         sound = (i .sound, d .sound);
         mates-face = each-append Meet (mates (k + 1) a) (mates (k + 1 + size a) b) (i .mates-face) (d .mates-face);
-        inner = inner-first k (size a + size b) (λ q. absurd (no-c q)) (inner-both (k + 1) (size a) (size b) (i .inner) (d .inner));
-        opens-out = eachN-append (Out k) oa ob (lower-all k oa no-c (i .opens-out)) right;
+        inner =
+            inner-first k (size a + size b)
+            (λ q. absurd (no-c q)) (inner-both (k + 1) (size a) (size b) (i .inner) (d .inner));
+        opens-out = eachN-append (Out k) oa ob (lower-all k oa no-c (i .opens-out)) behind;
       }

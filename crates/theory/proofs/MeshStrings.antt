@@ -31,7 +31,9 @@ pub shape-length : (vs os : List ℕ) → shapeOk vs os ≡ true → (length vs 
 unfolding shapeOk
 shape-length vs os h =
     let rest = and-right (eqb (length vs) (length os)) (eqb (length vs % 3) 0 && countOk (length vs / 3)) h in
-    let a = eqb-true (length vs) (length os) (and-left (eqb (length vs) (length os)) (eqb (length vs % 3) 0 && countOk (length vs / 3)) h) in
+    let a =
+        eqb-true (length vs) (length os)
+        (and-left (eqb (length vs) (length os)) (eqb (length vs % 3) 0 && countOk (length vs / 3)) h) in
     let b = eqb-true (length vs % 3) 0 (and-left (eqb (length vs % 3) 0) (countOk (length vs / 3)) rest) in
     (a, omega arith)
 

@@ -28,7 +28,8 @@ use Rattle.theory.specs.Tables.{links, tableV}
 use Rattle.theory.specs.Word.{news}
 use Rattle.theory.specs.declared.Letter.{Letter}
 
-module _ {lab opp : ℕ → ℕ} {t v g : ℕ} {mesh : Sphere lab opp t v g} {sp : ℕ → Letter} {co : ℕ → ℕ} (walk : Worded mesh sp co) where
+module _ {lab opp : ℕ → ℕ} {t v g : ℕ} {mesh : Sphere lab opp t v g} {sp : ℕ → Letter} {co : ℕ → ℕ}
+    (walk : Worded mesh sp co) where
   abbrev M : ℕ → ℕ
   M y = lab (carry co y)
 
@@ -89,7 +90,9 @@ module _ {lab opp : ℕ → ℕ} {t v g : ℕ} {mesh : Sphere lab opp t v g} {sp
   unnaming-low u h = go (decLt u v)
     where
       go : (d : Dec (u < v)) → unnaming-by u d < v
-      go (yes k) = let p = mesh .present u k in read-back-low (uncarry (walk .run) (p .0)) (uncarry-low (walk .run) (p .0) (p .1))
+      go (yes k) =
+          let p = mesh .present u k in
+          read-back-low (uncarry (walk .run) (p .0)) (uncarry-low (walk .run) (p .0) (p .1))
       go (no k) = absurd (k h)
 
   pub naming-unnaming : (u : ℕ) → u < v → naming (unnaming u) ≡ u
@@ -105,7 +108,8 @@ module _ {lab opp : ℕ → ℕ} {t v g : ℕ} {mesh : Sphere lab opp t v g} {sp
 
   -- unnaming is one to one on 0, .., v - 1, so it meets every number there
   named-by : (u : ℕ) → u < v → (z : ℕ) × (z < v) × (unnaming z ≡ u)
-  named-by u h = onto unnaming v unnaming-low (λ i j p q e. sym (naming-unnaming i p) ∙ ap naming e ∙ naming-unnaming j q) u h
+  named-by u h =
+      onto unnaming v unnaming-low (λ i j p q e. sym (naming-unnaming i p) ∙ ap naming e ∙ naming-unnaming j q) u h
 
   naming-is : (u : ℕ) (h : u < v) → naming u ≡ named-by u h .0
   naming-is u h = let r = named-by u h in ap naming (sym (r .2)) ∙ naming-unnaming (r .0) (r .1)

@@ -15,15 +15,16 @@ use Rattle.theory.proofs.CornerLaws.{next-previous, previous-low, trian
 use Rattle.theory.proofs.Counting.{bit-off, count, tris, tris-in}
 use Rattle.theory.proofs.Facts.{Side}
 use Rattle.theory.proofs.SphereLaws.{other-triangle}
-use Rattle.theory.proofs.UpSides.{Up, UpL, UpR, up-at, ups, ups-in}
+use Rattle.theory.proofs.UpSides.{Lifts, UpL, UpR, up-at, ups, ups-in}
 use Rattle.theory.proofs.Visited.{fresh}
 use Rattle.theory.proofs.WholeRun.{Walked}
-use Rattle.theory.specs.Corner.{inside, left, previous, right, triangle}
+use Rattle.theory.specs.Corner.{left, previous, right, triangle}
 use Rattle.theory.specs.Mesh.{Sphere}
 use Rattle.theory.specs.declared.Letter.{Letter}
 use Rattle.theory.specs.declared.Letter.the-variants.{C, E, L, R, S}
 
-module _ {lab opp : ℕ → ℕ} {t v g : ℕ} {mesh : Sphere lab opp t v g} {sp : ℕ → Letter} {co : ℕ → ℕ} (w : Walked mesh sp co) where
+module _ {lab opp : ℕ → ℕ} {t v g : ℕ} {mesh : Sphere lab opp t v g} {sp : ℕ → Letter} {co : ℕ → ℕ}
+    (w : Walked mesh sp co) where
   -- the step at the other side of x
   abbrev facing : ℕ → ℕ
   facing x = triangle (mate w x)
@@ -122,7 +123,7 @@ module _ {lab opp : ℕ → ℕ} {t v g : ℕ} {mesh : Sphere lab opp t v g} {sp
   later-left k R h q u = let z = up-left k h q in let y = ap triangle (z .1) ∙ triangle-tip (suc k) in omega arith
   later-left k S h q u = later-S k h q
 
-  later-up : (j x : ℕ) → j < t → Up (sp j) j x → triangle x < facing x
+  later-up : (j x : ℕ) → j < t → Lifts (sp j) j x → triangle x < facing x
   later-up j x l (inl (q, u)) =
       let z = up-right j l u in
       let a = ap triangle q ∙ triangle-left j in
@@ -139,10 +140,10 @@ module _ {lab opp : ℕ → ℕ} {t v g : ℕ} {mesh : Sphere lab opp t v g} {sp
   unfolding count
   later m e x h = go (ℕ-discrete x 0)
     where
-      inside : x < 3 * t → 1 ≤ count (mate w x) (tris 0 (suc m))
-      inside l = let a = mate-low w x l in tris-in (mate w x) (suc m) 0 (omega arith) (omega arith)
+      mate-in : x < 3 * t → 1 ≤ count (mate w x) (tris 0 (suc m))
+      mate-in l = let a = mate-low w x l in tris-in (mate w x) (suc m) 0 (omega arith) (omega arith)
 
-      low : (j : ℕ) → j < t → Up (sp j) j x → x < 3 * t
+      low : (j : ℕ) → j < t → Lifts (sp j) j x → x < 3 * t
       low j l (inl (q, u)) = omega arith
       low j l (inr (q, u)) = omega arith
 
@@ -151,10 +152,10 @@ module _ {lab opp : ℕ → ℕ} {t v g : ℕ} {mesh : Sphere lab opp t v g} {sp
           let a = later-0 (omega arith) in
           let b = ap triangle q ∙ triangle-tip 0 in
           let d = ap facing q in
-          (omega arith, inside (omega arith))
+          (omega arith, mate-in (omega arith))
       go (no q) =
           let z = bit-off x 0 q in
           let r = ups-in sp x (suc m) 0 (omega arith) in
           let u = up-at (sp (r .0)) x (r .0) (r .2) in
           let l : r .0 < t = omega arith in
-          (later-up (r .0) x l u, inside (low (r .0) l u))
+          (later-up (r .0) x l u, mate-in (low (r .0) l u))

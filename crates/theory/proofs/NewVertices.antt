@@ -28,12 +28,14 @@ length-tips M k (wS a b) =
     let m = length-append (tipsOf M (k + 1) a) (tipsOf M (k + 1 + size a) b) in
     omega arith
 
-pub names-of : (M N : ℕ → ℕ) (w : Word) (k nv : ℕ) → ((i : ℕ) → i < news w → N (nv + i) ≡ getD (tipsOf M k w) i 0) → Names M N k nv w
+pub names-of : (M N : ℕ → ℕ) (w : Word) (k nv : ℕ) → ((i : ℕ) → i < news w → N (nv + i) ≡ getD (tipsOf M k w) i 0)
+    → Names M N k nv w
 unfolding tipsOf news
 names-of M N wE k nv h = tt
 names-of M N (wC w) k nv h = (
   rw (add-zero nv) at (h 0 (omega arith)),
-  names-of M N w (k + 1) (nv + 1) (λ i b. let u : nv + 1 + i ≡ nv + suc i = omega arith in rw u (h (suc i) (omega arith))),
+  names-of M N w (k + 1) (nv + 1)
+  (λ i b. let u : nv + 1 + i ≡ nv + suc i = omega arith in rw u (h (suc i) (omega arith))),
 )
 names-of M N (wL w) k nv h = names-of M N w (k + 1) nv h
 names-of M N (wR w) k nv h = names-of M N w (k + 1) nv h
@@ -46,6 +48,8 @@ names-of M N (wS a b) k nv h = (names-of M N a (k + 1) nv one, names-of M N b (k
 
     two : (i : ℕ) → i < news b → N (nv + news a + i) ≡ getD (tipsOf M (k + 1 + size a) b) i 0
     two i q =
+        let ta = tipsOf M (k + 1) a in
+        let tb = tipsOf M (k + 1 + size a) b in
         let n = length-tips M (k + 1) a in
         let u : nv + news a + i ≡ nv + (length (tipsOf M (k + 1) a) + i) = omega arith in
-        rw u (h (length (tipsOf M (k + 1) a) + i) (omega arith) ∙ getD-append-add (tipsOf M (k + 1) a) (tipsOf M (k + 1 + size a) b) i 0)
+        rw u (h (length ta + i) (omega arith) ∙ getD-append-add ta tb i 0)

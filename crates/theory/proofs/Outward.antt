@@ -50,17 +50,23 @@ module _ (opp : ℕ → ℕ) (sp : ℕ → Letter) (co : ℕ → ℕ) where
   split-left (wL x) k h m = split-one k (size x) L (h .0) (letters-differ L S refl) (split-left x (k + 1) (h .1) (m .1))
   split-left (wR x) k h m = split-one k (size x) R (h .0) (letters-differ R S refl) (split-left x (k + 1) (h .1) (m .1))
   split-left (wS x y) k h m =
-      let ja = split-left x (k + 1) (h .1) (each-left (Faces opp co) (links (k + 1) x) (links (k + 1 + size x) y) (m .1 .1)) in
-      let jb = split-left y (k + 1 + size x) (h .2) (each-right (Faces opp co) (links (k + 1) x) (links (k + 1 + size x) y) (m .1 .1)) in
+      let ja =
+          split-left x (k + 1) (h .1)
+          (each-left (Faces opp co) (links (k + 1) x) (links (k + 1 + size x) y) (m .1 .1)) in
+      let jb =
+          split-left y (k + 1 + size x) (h .2)
+          (each-right (Faces opp co) (links (k + 1) x) (links (k + 1 + size x) y) (m .1 .1)) in
       λ j p q u. go ja jb j p q u (ℕ-discrete j k) (decLt j (k + 1 + size x))
     where
-      go : SplitLeft (k + 1) (size x) → SplitLeft (k + 1 + size x) (size y) → (j : ℕ) → k ≤ j → j < k + suc (size x + size y) → sp j ≡ S
+      go : SplitLeft (k + 1) (size x) → SplitLeft (k + 1 + size x) (size y) → (j : ℕ) → k ≤ j
+          → j < k + suc (size x + size y) → sp j ≡ S
           → Dec (j ≡ k) → Dec (j < k + 1 + size x) → (b : ℕ) × Faces opp co (3 * j + 2) (3 * b)
       go ja jb j p q u (yes z) d = (k + 1 + size x, rw z (m .1 .0))
       go ja jb j p q u (no z) (yes d) = ja j (omega arith) (omega arith) u
       go ja jb j p q u (no z) (no d) = jb j (omega arith) (omega arith) u
 
-module _ {lab opp : ℕ → ℕ} {t v g : ℕ} {mesh : Sphere lab opp t v g} {sp : ℕ → Letter} {co : ℕ → ℕ} (w : Walked mesh sp co) where
+module _ {lab opp : ℕ → ℕ} {t v g : ℕ} {mesh : Sphere lab opp t v g} {sp : ℕ → Letter} {co : ℕ → ℕ}
+    (w : Walked mesh sp co) where
   in-range : (k : ℕ) (a : Letter) → sp k ≡ a → a ≢ S → k < t
   in-range k a q n = go (decLt k t)
     where
@@ -87,7 +93,8 @@ module _ {lab opp : ℕ → ℕ} {t v g : ℕ} {mesh : Sphere lab opp t v g} {sp
       right-down a p f d = not-earlier (3 * triangle y + 1) f (down-right w (triangle y) (omega arith) (rw p d))
 
       right-up : (a : Letter) → sp (triangle y) ≡ a → y ≡ 3 * triangle y + 1 → UpR a → ⊥
-      right-up a p f d = no-bottom (3 * triangle y + 1) (suc (triangle y)) f (up-right w (triangle y) (omega arith) (rw p d) .1)
+      right-up a p f d =
+          no-bottom (3 * triangle y + 1) (suc (triangle y)) f (up-right w (triangle y) (omega arith) (rw p d) .1)
 
       left-down : (a : Letter) → sp (triangle y) ≡ a → y ≡ 3 * triangle y + 2 → (UpL a → ⊥) → ⊥
       left-down a p f d = not-earlier (3 * triangle y + 2) f (down-left w (triangle y) (omega arith) (rw p d))
@@ -103,7 +110,8 @@ module _ {lab opp : ℕ → ℕ} {t v g : ℕ} {mesh : Sphere lab opp t v g} {sp
       on-left C p f = inr (triangle y, f, p)
       on-left L p f = absurd (left-down L p f (λ z. z))
       on-left E p f = absurd (left-down E p f (λ z. z))
-      on-left R p f = absurd (no-bottom (3 * triangle y + 2) (suc (triangle y)) f (up-left w (triangle y) (omega arith) p .1))
+      on-left R p f =
+          absurd (no-bottom (3 * triangle y + 2) (suc (triangle y)) f (up-left w (triangle y) (omega arith) p .1))
       on-left S p f =
           let z = lefts (triangle y) (omega arith) (omega arith) p in
           absurd (no-bottom (3 * triangle y + 2) (z .0) f (mate-at w (3 * triangle y + 2) (3 * z .0) (z .1)))
@@ -148,12 +156,14 @@ module _ {lab opp : ℕ → ℕ} {t v g : ℕ} {mesh : Sphere lab opp t v g} {sp
   fresh-at k q y h n u = go (in-range k C q (letters-differ C S refl)) (decLt (triangle y) k)
     where
       go : k < t → Dec (triangle y < k) → ⊥
-      go l (yes z) = fresh mesh (w .facts) k (carry co y) l q (triangle y, z, carry-triangle co y) (u ∙ ap lab (carry-tip co k))
+      go l (yes z) =
+          fresh mesh (w .facts) k (carry co y) l q (triangle y, z, carry-triangle co y) (u ∙ ap lab (carry-tip co k))
       go l (no z) =
           let a = triangle-low (suc k) y (omega arith) in
           let same : triangle y ≡ k = omega arith in
           let b = carry-triangle co y ∙ ap (λ (i : ℕ). triangle (co i)) same ∙ ap triangle (sym (carry-tip co k)) in
-          n (carry-inj w y (3 * k) (one-corner mesh (carry co y) (carry co (3 * k)) (carry-low w (3 * k) (omega arith)) b u))
+          let one = one-corner mesh (carry co y) (carry co (3 * k)) (carry-low w (3 * k) (omega arith)) b u in
+          n (carry-inj w y (3 * k) one)
 
   pub apart-at : (k : ℕ) → sp k ≡ C → lab (carry co (3 * k + 1)) ≢ lab (carry co (3 * k + 2))
   apart-at k q u =

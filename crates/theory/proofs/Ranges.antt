@@ -1,4 +1,5 @@
--- Facts at every corner of the triangles k, .., k + n - 1 (`Range`), put together from the first triangle and from two parts.
+-- Facts at every corner of the triangles k, .., k + n - 1 (`Range`), put together from the first triangle and the rest,
+-- or from two parts.
 use mathlib.Core.Path.{_≡_, subst, sym}
 use Prim.Native.Nat.{_*_, _+_, _<_, _≤_, suc, ℕ}
 use native.Mathlib.Decide.{decLt, ℕ-discrete}
@@ -7,7 +8,8 @@ use native.Mathlib.Omega.{arith}
 abbrev pub Range : (ℕ → Type 0) → ℕ → ℕ → Type 0
 Range P k n = (x : ℕ) → 3 * k ≤ x → x < 3 * (k + n) → P x
 
-pub range-first : (P : ℕ → Type 0) (k n : ℕ) → P (3 * k) → P (3 * k + 1) → P (3 * k + 2) → Range P (k + 1) n → Range P k (suc n)
+pub range-first : (P : ℕ → Type 0) (k n : ℕ) → P (3 * k) → P (3 * k + 1) → P (3 * k + 2) → Range P (k + 1) n
+    → Range P k (suc n)
 range-first P k n a b d f x p q = go (ℕ-discrete x (3 * k)) (ℕ-discrete x (3 * k + 1)) (ℕ-discrete x (3 * k + 2))
   where
     go : Dec (x ≡ 3 * k) → Dec (x ≡ 3 * k + 1) → Dec (x ≡ 3 * k + 2) → P x

@@ -1,4 +1,11 @@
--- Renumbered.
+-- T4: two accepted meshes have equal strings exactly if one is a renumbering of the other.
+--
+--   cornerMap vertexMap   from one mesh by its walk table back to the tables read, and on by the other's walk table
+--   corner-at             so the two walk tables show the corner map
+--   same-t same-v         equal strings: as many triangles and vertices
+--   renumbered            equal strings: a renumbering, by these maps
+--   equal-strings         a renumbering: equal strings
+--   only-corners only-vertices   every renumbering is this one
 use mathlib.Core.List.{List, [], _++_}
 use mathlib.Core.Path.{_∙_, _≡_, ap, sym}
 use Prim.Native.Nat.{_*_, _+_, _<_, ℕ}
@@ -34,7 +41,8 @@ module _ {lab opp lab′ opp′ : ℕ → ℕ} {t v g t′ v′ g′ : ℕ} {ste
   unfolding cornerMap
   corner-next c =
       let x = r .back c in
-      let a : next c ≡ byWalk (cornersOf steps) (next x) = ap next (sym (r .there c)) ∙ sym (by-walk-next (cornersOf steps) x) in
+      let a : next c ≡ byWalk (cornersOf steps) (next x) =
+          ap next (sym (r .there c)) ∙ sym (by-walk-next (cornersOf steps) x) in
       ap cornerMap a ∙ corner-at (next x) ∙ by-walk-next (cornersOf steps′) x
 
   corner-inj : (c d : ℕ) → cornerMap c ≡ cornerMap d → c ≡ d
@@ -46,7 +54,8 @@ module _ {lab opp lab′ opp′ : ℕ → ℕ} {t v g t′ v′ g′ : ℕ} {ste
   module _ (same : lettersOf steps ≡ lettersOf steps′) where
     -- one string is one word, so as many triangles and vertices
     pub same-word : r .word ≡ r′ .word
-    same-word = spell-injective (r .word) (r′ .word) [] [] (ap (λ (s : List ℕ). s ++ []) (r .spelt ∙ same ∙ sym (r′ .spelt)))
+    same-word =
+        spell-injective (r .word) (r′ .word) [] [] (ap (λ (s : List ℕ). s ++ []) (r .spelt ∙ same ∙ sym (r′ .spelt)))
 
     pub same-t : t ≡ t′
     same-t = sym (r .sized) ∙ ap size same-word ∙ r′ .sized
@@ -61,8 +70,10 @@ module _ {lab opp lab′ opp′ : ℕ → ℕ} {t v g t′ v′ g′ : ℕ} {ste
         let l = r .back-low c b in
         let e = same-t in
         let y = opposite (tableO (r .word)) x in
-        let a : opp c ≡ byWalk (cornersOf steps) (opposite (tableO (r .word)) (r .back c)) = ap opp (sym (r .there c)) ∙ r .neighbours x l in
-        ap cornerMap a ∙ corner-at y ∙ ap (λ (w : Word). byWalk (cornersOf steps′) (opposite (tableO w) x)) same-word ∙ sym (r′ .neighbours x (omega arith))
+        let a : opp c ≡ byWalk (cornersOf steps) (opposite (tableO (r .word)) (r .back c)) =
+            ap opp (sym (r .there c)) ∙ r .neighbours x l in
+        ap cornerMap a ∙ corner-at y ∙ ap (λ (w : Word). byWalk (cornersOf steps′) (opposite (tableO w) x)) same-word
+        ∙ sym (r′ .neighbours x (omega arith))
 
     corner-vertex : (c : ℕ) → c < 3 * t → lab′ (cornerMap c) ≡ vertexMap (lab c)
     unfolding cornerMap vertexMap
@@ -71,7 +82,8 @@ module _ {lab opp lab′ opp′ : ℕ → ℕ} {t v g t′ v′ g′ : ℕ} {ste
         let l = r .back-low c b in
         let e = same-t in
         let a : lab c ≡ r .name (vertex (tableV (r .word)) (r .back c)) = ap lab (sym (r .there c)) ∙ r .vertices x l in
-        let d : r .unname (lab c) ≡ vertex (tableV (r .word)) (r .back c) = ap (r .unname) a ∙ r .unname-name (vertex (tableV (r .word)) x) (r .read-low x l) in
+        let d : r .unname (lab c) ≡ vertex (tableV (r .word)) (r .back c) =
+            ap (r .unname) a ∙ r .unname-name (vertex (tableV (r .word)) x) (r .read-low x l) in
         r′ .vertices x (omega arith) ∙ ap (r′ .name) (ap (λ (w : Word). vertex (tableV w) x) (sym same-word) ∙ sym d)
 
     -- T4, from strings to meshes
@@ -79,12 +91,15 @@ module _ {lab opp lab′ opp′ : ℕ → ℕ} {t v g t′ v′ g′ : ℕ} {ste
     unfolding cornerMap vertexMap
     renumbered = record {
       gate = corner-gate;
-      low = λ c b. let e = same-t in let l = r .back-low c b in let z = r′ .low (r .back c) (omega arith) in omega arith;
+      low =
+          λ c b. let e = same-t in let l = r .back-low c b in let z = r′ .low (r .back c) (omega arith) in omega arith;
       inj = λ c d p q e. corner-inj c d e;
       turning = λ c b. corner-next c;
       neighbour = corner-neighbour;
       vertex = corner-vertex;
-      names-low = λ u b. let e = same-v in let l = r .unname-low u b in let z = r′ .name-low (r .unname u) (omega arith) in omega arith;
+      names-low =
+          λ u b. let e =
+              same-v in let l = r .unname-low u b in let z = r′ .name-low (r .unname u) (omega arith) in omega arith;
       names-inj = names-inj;
     }
       where
@@ -93,17 +108,21 @@ module _ {lab opp lab′ opp′ : ℕ → ℕ} {t v g t′ v′ g′ : ℕ} {ste
             let s = same-v in
             let lu = r .unname-low u p in
             let lw = r .unname-low w q in
-            let a : r .unname u ≡ r .unname w = sym (r′ .unname-name (r .unname u) (omega arith)) ∙ ap (r′ .unname) e ∙ r′ .unname-name (r .unname w) (omega arith) in
+            let a : r .unname u ≡ r .unname w =
+                sym (r′ .unname-name (r .unname u) (omega arith)) ∙ ap (r′ .unname) e
+                ∙ r′ .unname-name (r .unname w) (omega arith) in
             sym (r .name-unname u p) ∙ ap (r .name) a ∙ r .name-unname w q
 
-module _ {lab opp lab′ opp′ : ℕ → ℕ} {t v g t′ v′ g′ : ℕ} (mesh : Sphere lab opp t v g) (mesh′ : Sphere lab′ opp′ t′ v′ g′) (e : t ≡ t′)
+module _ {lab opp lab′ opp′ : ℕ → ℕ} {t v g t′ v′ g′ : ℕ} (mesh : Sphere lab opp t v g)
+    (mesh′ : Sphere lab′ opp′ t′ v′ g′) (e : t ≡ t′)
     {h a : ℕ → ℕ} (iso : Renumbering lab opp lab′ opp′ t v g g′ h a) where
   abbrev other : ℕ → List Step
   other n = walkFrom lab′ opp′ n g′
 
   -- T4, from meshes to strings
   pub equal-strings : lettersOf (walkFrom lab opp t g) ≡ lettersOf (walkFrom lab′ opp′ t′ g′)
-  equal-strings = sym (same-letters iso (mesh .gate) (mesh .inside) (mesh .below)) ∙ ap (λ (n : ℕ). lettersOf (other n)) e
+  equal-strings =
+      sym (same-letters iso (mesh .gate) (mesh .inside) (mesh .below)) ∙ ap (λ (n : ℕ). lettersOf (other n)) e
 
   -- there is only one renumbering
   pub only-corners : (c : ℕ) → c < 3 * t → h c ≡ cornerMap (round mesh) (round mesh′) c
@@ -112,12 +131,14 @@ module _ {lab opp lab′ opp′ : ℕ → ℕ} {t v g t′ v′ g′ : ℕ} (mes
       let r = round mesh in
       let cs = cornersOf (walkFrom lab opp t g) in
       ap h (sym (r .there c))
-      ∙ by-walk-map iso (mesh .gate) (mesh .inside) (mesh .below) t (r .long) (λ k l. rw (by-walk-tip cs k) at (r .low (3 * k) (omega arith))) (r .back c) (r .back-low c b)
+      ∙ by-walk-map iso (mesh .gate) (mesh .inside) (mesh .below) t (r .long)
+      (λ k l. rw (by-walk-tip cs k) at (r .low (3 * k) (omega arith))) (r .back c) (r .back-low c b)
       ∙ ap (λ (n : ℕ). byWalk (cornersOf (other n)) (r .back c)) e
 
   pub only-vertices : (u : ℕ) → u < v → a u ≡ vertexMap (round mesh) (round mesh′) u
   only-vertices u b =
       let p = mesh .present u b in
       let again = renumbered (round mesh) (round mesh′) equal-strings in
-      ap a (sym (p .2)) ∙ sym (iso .vertex (p .0) (p .1)) ∙ ap lab′ (only-corners (p .0) (p .1)) ∙ again .vertex (p .0) (p .1)
+      ap a (sym (p .2)) ∙ sym (iso .vertex (p .0) (p .1)) ∙ ap lab′ (only-corners (p .0) (p .1))
+      ∙ again .vertex (p .0) (p .1)
       ∙ ap (vertexMap (round mesh) (round mesh′)) (p .2)

@@ -1,4 +1,16 @@
--- RoundTrip.
+-- T3 (`round`): on an accepted mesh the walk takes exactly t steps, its string closes, and reading it back gives the
+-- mesh renumbered by the walk table.
+--
+--   Round lab opp t v g steps   what is said of the steps of a walk:
+--     long once met             t steps, each triangle met once
+--     word spelt sound two      the string is the letters of a sound word of width 2 ..
+--     sized counted             .. with t letters, and 2 + its Cs are the vertices
+--     gate back low there here  byWalk is one to one from the corners read back to those of the mesh, back its inverse
+--     name unname ..            likewise the vertices
+--     neighbours vertices       byWalk and name carry tables O and V, read back, to those of the mesh
+--   round-closes                so the string closes
+--
+-- Rule 13's ring part is not used.
 use mathlib.Core.List.{List}
 use mathlib.Core.Path.{_∙_, _≡_, subst, sym}
 use Prim.Native.Nat.{_*_, _+_, _<_, ℕ}
@@ -45,7 +57,8 @@ pub record Round (lab opp : ℕ → ℕ) (t v g : ℕ) (steps : List Step) : Typ
   pub unname-name : (u : ℕ) → u < v → unname (name u) ≡ u
   -- what is read back is the mesh
   pub read-low : (x : ℕ) → x < 3 * t → vertex (tableV word) x < v
-  pub neighbours : (x : ℕ) → x < 3 * t → opp (byWalk (cornersOf steps) x) ≡ byWalk (cornersOf steps) (opposite (tableO word) x)
+  pub neighbours : (x : ℕ) → x < 3 * t
+      → opp (byWalk (cornersOf steps) x) ≡ byWalk (cornersOf steps) (opposite (tableO word) x)
   pub vertices : (x : ℕ) → x < 3 * t → lab (byWalk (cornersOf steps) x) ≡ name (vertex (tableV word) x)
 
 module _ {lab opp : ℕ → ℕ} {t v g : ℕ} (mesh : Sphere lab opp t v g) where
@@ -59,7 +72,8 @@ module _ {lab opp : ℕ → ℕ} {t v g : ℕ} (mesh : Sphere lab opp t v g) whe
           let r = walked mesh in
           let n : size w ≡ t = sym (follows-length opp w g q k) ∙ steps-length mesh in
           let li = linked opp (letterOf q) (cornerOf q) w g 0 q k (ahead-all q) in
-          let d : Worded mesh (letterOf (steps mesh)) (cornerOf (steps mesh)) = record { run = r; word = w; sized = n; spells = li .1; links-face = li .2 } in
+          let d : Worded mesh (letterOf (steps mesh)) (cornerOf (steps mesh)) =
+              record { run = r; word = w; sized = n; spells = li .1; links-face = li .2 } in
           record {
             long = steps-length mesh;
             once = time-inj r;
@@ -93,5 +107,6 @@ module _ {lab opp : ℕ → ℕ} {t v g : ℕ} (mesh : Sphere lab opp t v g) whe
   round = subst (Round lab opp t v g) (sym (literal mesh)) round-steps
 
 -- its string closes
-pub round-closes : {lab opp : ℕ → ℕ} {t v g : ℕ} {steps : List Step} → Round lab opp t v g steps → Closes (lettersOf steps)
+pub round-closes : {lab opp : ℕ → ℕ} {t v g : ℕ} {steps : List Step} → Round lab opp t v g steps
+    → Closes (lettersOf steps)
 round-closes r = record { word = r .word; spelt = r .spelt; sound = r .sound; two = r .two }

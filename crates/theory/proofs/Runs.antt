@@ -1,4 +1,5 @@
--- The walk that skips waiting lefts seen meanwhile (`Run`). E7: where it has as many Es as Ss and one more, nothing is skipped.
+-- The walk that skips waiting lefts seen meanwhile (`Run`). E7: where it has as many Es as Ss and one more, nothing is
+-- skipped.
 --
 --   Drop pre st rest     rest is what is left of the waiting lefts st after dropping some that are seen
 --   Run pre st x q       from corner x, with st waiting, the walk makes the steps q and ends
@@ -104,13 +105,15 @@ module _ (opp : ℕ → ℕ) where
   Follows (wL w) x q = (q₁ : List Step) × First L x q₁ q × Follows w (right opp x) q₁
   Follows (wR w) x q = (q₁ : List Step) × First R x q₁ q × Follows w (left opp x) q₁
   Follows (wS a b) x q =
-      (q₁ : List Step) × (q₂ : List Step) × First S x (q₁ ++ q₂) q × Follows a (right opp x) q₁ × Follows b (left opp x) q₂
+      (q₁ : List Step) × (q₂ : List Step) × First S x (q₁ ++ q₂) q × Follows a (right opp x) q₁ × Follows b
+      (left opp x) q₂
 
   abbrev pub FollowAll : List Word → List ℕ → List Step → Type 0
   FollowAll [] [] q = q ≡ []
   FollowAll [] (x ∷ xs) q = ⊥
   FollowAll (w ∷ ws) [] q = ⊥
-  FollowAll (w ∷ ws) (x ∷ xs) q = (q₁ : List Step) × (q₂ : List Step) × (q ≡ q₁ ++ q₂) × Follows w x q₁ × FollowAll ws xs q₂
+  FollowAll (w ∷ ws) (x ∷ xs) q =
+      (q₁ : List Step) × (q₂ : List Step) × (q ≡ q₁ ++ q₂) × Follows w x q₁ × FollowAll ws xs q₂
 
   abbrev pub Forest : ℕ → List ℕ → List Step → Type 0
   Forest x st q = (w : Word) × (ws : List Word) × FollowAll (w ∷ ws) (x ∷ st) q
@@ -119,7 +122,8 @@ module _ (opp : ℕ → ℕ) where
   put a x q = (a ＠ x) ∷ q
 
   -- one letter in front of a forest
-  front-one : (a : Letter) (f : Word → Word) (x y : ℕ) → ((w : Word) (q : List Step) → Follows w y q → Follows (f w) x (put a x q))
+  front-one : (a : Letter) (f : Word → Word) (x y : ℕ)
+      → ((w : Word) (q : List Step) → Follows w y q → Follows (f w) x (put a x q))
       → (st : List ℕ) (q : List Step) → Forest y st q → Forest x st (put a x q)
   front-one a f x y g st q (w, ws, (q₁, q₂, h, k, m)) = (f w, ws, (put a x q₁, q₂, ap (put a x) h, g w q₁ k, m))
 
@@ -133,10 +137,12 @@ module _ (opp : ℕ → ℕ) where
   front-E x d st q (w, ws, m) = (wE, w ∷ ws, (put E x [], q, refl, refl, m))
 
 module _ (lab opp : ℕ → ℕ) (g : ℕ) where
-  pub forest : {pre q : List Step} {st : List ℕ} {x : ℕ} → Run lab opp g pre st x q → countE q ≡ countS q + length st + 1
+  pub forest : {pre q : List Step} {st : List ℕ} {x : ℕ} → Run lab opp g pre st x q
+      → countE q ≡ countS q + length st + 1
       → Forest opp x st q
   unfolding countE countS
-  forest (new {st = st} {x = x} {q = q} h z) t = front-one opp C wC x (right opp x) (λ w r k. (r, refl, k)) st q (forest z t)
+  forest (new {st = st} {x = x} {q = q} h z) t =
+      front-one opp C wC x (right opp x) (λ w r k. (r, refl, k)) st q (forest z t)
   forest (left-done {st = st} {x = x} {q = q} h z) t =
       front-one opp L wL x (right opp x) (λ w r k. (r, refl, k)) st q (forest z t)
   forest (right-done {st = st} {x = x} {q = q} h z) t =

@@ -31,12 +31,14 @@ module _ {lab opp : ℕ → ℕ} {t v g : ℕ} (mesh : Sphere lab opp t v g) whe
       go : (opp c ≡ c) ⊎ ((opp c ≡ next c) ⊎ (opp c ≡ previous c)) → ⊥
       go (inl u) = mesh .moves c h u
       go (inr (inl u)) =
-          mesh .apart c h (sym (ap lab (previous-next c)) ∙ ap (λ (d : ℕ). lab (previous d)) (sym u) ∙ sym (mesh .glued c))
+          mesh .apart c h
+          (sym (ap lab (previous-next c)) ∙ ap (λ (d : ℕ). lab (previous d)) (sym u) ∙ sym (mesh .glued c))
       go (inr (inr u)) = mesh .apart (previous c) (previous-low t c h) (glued-left c ∙ ap (λ (d : ℕ). lab (next d)) u)
 
   pub swing-inj : (c d : ℕ) → swing opp c ≡ swing opp d → c ≡ d
   swing-inj c d q =
-      let a : right opp c ≡ right opp d = sym (previous-next (right opp c)) ∙ ap previous q ∙ previous-next (right opp d) in
+      let a : right opp c ≡ right opp d =
+          sym (previous-next (right opp c)) ∙ ap previous q ∙ previous-next (right opp d) in
       let b : next c ≡ next d = sym (mesh .paired (next c)) ∙ ap opp a ∙ mesh .paired (next d) in
       sym (previous-next c) ∙ ap previous b ∙ previous-next d
 

@@ -8,7 +8,10 @@ use lib.Dec.{eqb}
 use borrow.Author.Tests.{eq-eqb}
 
 pub not-both : (b : Bool) → b ≡ true → b ≡ false → ⊥
-not-both b p q = let e : true ≡ false = sym p ∙ q in let z : _≡_ {A = ℕ} 1 0 = ap (λ (x : Bool). cond x 1 0) e in omega arith
+not-both b p q =
+    let e : true ≡ false = sym p ∙ q in
+    let z : _≡_ {A = ℕ} 1 0 = ap (λ (x : Bool). cond x 1 0) e in
+    omega arith
 
 pub true-or-false : (b : Bool) → (b ≡ true) ⊎ (b ≡ false)
 true-or-false true = inl refl

@@ -1,9 +1,10 @@
--- Up and down sides by letter. E5 (`more-down`): where every up side, and corner 0, has its opposite at a later triangle, there
--- are more down sides than up sides.
+-- Up and down sides by letter. E5 (`more-down`): where every up side, and corner 0, has its opposite at a later
+-- triangle, there are more down sides than up sides.
 --
 --   upAt a k, downAt a k   the sides of triangle k that the letter a leaves for later, and those that it closes
 --   ups downs              of the triangles k, .., k + n - 1; every bottom corner is down
 --   UpR a, UpL a           the letter a leaves its right, its left side for later
+--   Lifts a k x            x is such a side of triangle k
 use mathlib.Core.List.{List, [], _++_, _∷_, map}
 use mathlib.Core.Logic.{_⊎_, inl, inr}
 use mathlib.Core.Path.{_∙_, _≡_, ap, refl, sym}
@@ -32,7 +33,8 @@ downAt E k = (3 * k + 1) ∷ ((3 * k + 2) ∷ [])
 downAt R k = (3 * k + 1) ∷ []
 downAt S k = []
 
-sides-at : (a : Letter) (x k : ℕ) → count x (upAt a k) + count x (downAt a k) ≡ bit (eqb x (3 * k + 1)) + bit (eqb x (3 * k + 2))
+sides-at : (a : Letter) (x k : ℕ)
+    → count x (upAt a k) + count x (downAt a k) ≡ bit (eqb x (3 * k + 1)) + bit (eqb x (3 * k + 2))
 unfolding upAt downAt count
 sides-at C x k = omega arith
 sides-at L x k = omega arith
@@ -54,14 +56,14 @@ UpL E = ⊥
 UpL R = Unit {0}
 UpL S = Unit {0}
 
-abbrev pub Up : Letter → ℕ → ℕ → Type 0
-Up a k x = ((x ≡ 3 * k + 1) × UpR a) ⊎ ((x ≡ 3 * k + 2) × UpL a)
+abbrev pub Lifts : Letter → ℕ → ℕ → Type 0
+Lifts a k x = ((x ≡ 3 * k + 1) × UpR a) ⊎ ((x ≡ 3 * k + 2) × UpL a)
 
-pub up-at : (a : Letter) (x k : ℕ) → 1 ≤ count x (upAt a k) → Up a k x
+pub up-at : (a : Letter) (x k : ℕ) → 1 ≤ count x (upAt a k) → Lifts a k x
 unfolding upAt count
 up-at C x k h = go (ℕ-discrete x (3 * k + 1))
   where
-    go : Dec (x ≡ 3 * k + 1) → Up C k x
+    go : Dec (x ≡ 3 * k + 1) → Lifts C k x
     go (yes q) = inl (q, tt)
     go (no q) = let z = bit-off x (3 * k + 1) q in inr (bit-one x (3 * k + 2) (omega arith), tt)
 up-at L x k h = inl (bit-one x (3 * k + 1) (omega arith), tt)
@@ -69,7 +71,7 @@ up-at E x k h = absurd (omega arith)
 up-at R x k h = inr (bit-one x (3 * k + 2) (omega arith), tt)
 up-at S x k h = go (ℕ-discrete x (3 * k + 1))
   where
-    go : Dec (x ≡ 3 * k + 1) → Up S k x
+    go : Dec (x ≡ 3 * k + 1) → Lifts S k x
     go (yes q) = inl (q, tt)
     go (no q) = let z = bit-off x (3 * k + 1) q in inr (bit-one x (3 * k + 2) (omega arith), tt)
 
@@ -105,11 +107,13 @@ module _ (sp : ℕ → Letter) where
           (r .0, omega arith, r .2)
 
   -- one triangle more
-  pub ups-length : (k n : ℕ) (a : Letter) → sp k ≡ a → length (ups k (suc n)) ≡ length (upAt a k) + length (ups (suc k) n)
+  pub ups-length : (k n : ℕ) (a : Letter) → sp k ≡ a
+      → length (ups k (suc n)) ≡ length (upAt a k) + length (ups (suc k) n)
   unfolding ups
   ups-length k n a q = length-append (upAt (sp k) k) (ups (k + 1) n) ∙ rw (q, add-one k)
 
-  pub downs-length : (k n : ℕ) (a : Letter) → sp k ≡ a → length (downs k (suc n)) ≡ suc (length (downAt a k) + length (downs (suc k) n))
+  pub downs-length : (k n : ℕ) (a : Letter) → sp k ≡ a
+      → length (downs k (suc n)) ≡ suc (length (downAt a k) + length (downs (suc k) n))
   unfolding downs
   downs-length k n a q = ap suc (length-append (downAt (sp k) k) (downs (k + 1) n) ∙ rw (q, add-one k))
 

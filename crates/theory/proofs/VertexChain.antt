@@ -1,4 +1,5 @@
--- D8 for vertices: where joined edges have the same ends, the open sides of a word are a path from its right end to its left end.
+-- D8 for vertices: where joined edges have the same ends, the open sides of a word are a path from its right end to its
+-- left end.
 --
 --   M x            the vertex at corner x
 --   SameEnds a b   the edges opposite a and b have the same ends

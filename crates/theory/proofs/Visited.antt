@@ -1,8 +1,8 @@
 -- E4: a run visits every triangle of the mesh (`visited`), so it has at least t steps (`full`).
 --
--- The left side of a C is visited in the end (`new-left`): swinging from its tip goes round over visited triangles only, by
--- recursion from the last C back. Likewise the gate's own neighbour (`gate-seen`), by swinging round an end of its edge.
--- So the visited triangles are closed under neighbours (`closed`), and the mesh is one piece.
+-- The left side of a C is visited in the end (`new-left`): swinging from its tip goes round over visited triangles
+-- only, by recursion from the last C back. Likewise the gate's own neighbour (`gate-seen`), by swinging round an end of its
+-- edge. So the visited triangles are closed under neighbours (`closed`), and the mesh is one piece.
 use mathlib.Core.Logic.{_≢_, _⊎_, inl, inr}
 use mathlib.Core.Path.{_∙_, _≡_, ap, refl, subst, sym}
 use Prim.Native.Nat.{_*_, _+_, _<_, _≤_, suc, zero, ℕ}
@@ -16,7 +16,7 @@ use Rattle.theory.proofs.Injections.{length-vals, order, vals, vals-has
 use Rattle.theory.proofs.LetterLaws.{is-C}
 use Rattle.theory.proofs.SphereLaws.{one-corner, swing-inj, swing-low, swings-vertex}
 use Rattle.theory.specs.Corner.{left, next, previous, right, swing, triangle}
-use Rattle.theory.specs.Lists.{iter, some}
+use Rattle.theory.specs.Lists.{iter}
 use Rattle.theory.specs.Mesh.{Reach, Sphere, here, over}
 use Rattle.theory.specs.declared.Letter.{Letter}
 use Rattle.theory.specs.declared.Letter.the-variants.{C, E, L, R, S}
@@ -103,7 +103,8 @@ module _ {lab opp : ℕ → ℕ} {t v g : ℕ} (mesh : Sphere lab opp t v g)
           go (no z) (yes d) = around j (next c) (f j d q) (omega arith) q (triangle-next c ∙ u)
           go (no z) (no d) =
               let e : j ≡ k = omega arith in
-              let same : c ≡ co k = one-corner mesh c (co k) (facts k h .low) (u ∙ ap (λ (y : ℕ). triangle (co y)) e) l in
+              let same : c ≡ co k =
+                  one-corner mesh c (co k) (facts k h .low) (u ∙ ap (λ (y : ℕ). triangle (co y)) e) l in
               rw same (right-seen k h)
 
   -- by recursion on m - k
@@ -128,7 +129,8 @@ module _ {lab opp : ℕ → ℕ} {t v g : ℕ} (mesh : Sphere lab opp t v g)
           go (no w) =
               let e : j ≡ 0 = omega arith in
               let there = u ∙ ap (λ (y : ℕ). triangle (co y)) e ∙ sym (triangle-next (co 0)) in
-              let same : c ≡ next (co 0) = one-corner mesh c (next (co 0)) (next-low t (co 0) (facts 0 h .low)) there l in
+              let same : c ≡ next (co 0) =
+                  one-corner mesh c (next (co 0)) (next-low t (co 0) (facts 0 h .low)) there l in
               rw (same, next-next (co 0)) (left-seen 0 h)
 
   gate-seen : 0 < m → Seen (opp (co 0))
@@ -143,9 +145,9 @@ module _ {lab opp : ℕ → ℕ} {t v g : ℕ} (mesh : Sphere lab opp t v g)
       go (yes z) = beside j c (rw z (gate-seen (omega arith))) (left-seen j q) q u
       go (no z) = around j c (λ w. left-seen j q) (omega arith) q u
 
-  module _ (some : 0 < m) (start : co 0 ≡ g) where
+  module _ (any : 0 < m) (start : co 0 ≡ g) where
     reach-seen : {k : ℕ} → Reach opp (triangle g) k → (j : ℕ) × (j < m) × (k ≡ triangle (co j))
-    reach-seen here = (0, some, ap triangle (sym start))
+    reach-seen here = (0, any, ap triangle (sym start))
     reach-seen (over c r) = closed c (reach-seen r)
 
     pub visited : (c : ℕ) → c < 3 * t → Seen c

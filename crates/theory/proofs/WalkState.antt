@@ -91,7 +91,8 @@ module _ {lab opp : ℕ → ℕ} {t v g : ℕ} (mesh : Sphere lab opp t v g) whe
   seen-next [] d = refl
   seen-next ((a ＠ y) ∷ pre) d = rw (triangle-next, seen-next pre d)
 
-  pub dropped-each : {pre : List Step} {st rest : List ℕ} (P : ℕ → Type 0) → Drop pre st rest → EachN P st → EachN P rest
+  pub dropped-each : {pre : List Step} {st rest : List ℕ} (P : ℕ → Type 0) → Drop pre st rest → EachN P st
+      → EachN P rest
   dropped-each P stay h = h
   dropped-each P (skip q z) h = dropped-each P z (h .1)
 
@@ -104,13 +105,22 @@ module _ {lab opp : ℕ → ℕ} {t v g : ℕ} (mesh : Sphere lab opp t v g) whe
       right-ends : Ends ((a ＠ x) ∷ pre) (right opp x)
       right-ends =
           let q : lab (previous (right opp x)) ≡ lab (previous x) = sym (mesh .glued (next x)) ∙ ap lab (next-next x) in
-          (rw right-tip tip, rw q (mono a x (lab (previous x)) pre (i .ends .1)), mesh .inside (next x) (next-low t x (i .ends .2)))
+          (
+            rw right-tip tip,
+            rw q (mono a x (lab (previous x)) pre (i .ends .1)),
+            mesh .inside (next x) (next-low t x (i .ends .2)),
+          )
 
       left-ends : Ends ((a ＠ x) ∷ pre) (left opp x)
       left-ends =
           let p : lab (previous (left opp x)) ≡ lab x = sym (mesh .glued (previous x)) ∙ ap lab (next-previous x) in
-          let q : lab (next (left opp x)) ≡ lab (next x) = sym (glued-left mesh (previous x)) ∙ ap lab (previous-previous x) in
-          (rw q (mono a x (lab (next x)) pre (i .ends .0)), rw p tip, mesh .inside (previous x) (previous-low t x (i .ends .2)))
+          let q : lab (next (left opp x)) ≡ lab (next x) =
+              sym (glued-left mesh (previous x)) ∙ ap lab (previous-previous x) in
+          (
+            rw q (mono a x (lab (next x)) pre (i .ends .0)),
+            rw p tip,
+            mesh .inside (previous x) (previous-low t x (i .ends .2)),
+          )
 
       waits : EachN (Ends ((a ＠ x) ∷ pre)) st
       waits =
@@ -131,9 +141,11 @@ module _ {lab opp : ℕ → ℕ} {t v g : ℕ} (mesh : Sphere lab opp t v g) whe
           go (inl q) = corner (three d x (eqb-true (triangle d) (triangle x) q))
           go (inr q) = mono a x (lab d) pre (i .marked d q)
 
-      kept : (rest : List ℕ) (y : ℕ) → Ends ((a ＠ x) ∷ pre) y → EachN (Ends ((a ＠ x) ∷ pre)) rest → seen ((a ＠ x) ∷ pre) y ≡ false
+      kept : (rest : List ℕ) (y : ℕ) → Ends ((a ＠ x) ∷ pre) y → EachN (Ends ((a ＠ x) ∷ pre)) rest
+          → seen ((a ＠ x) ∷ pre) y ≡ false
           → State ((a ＠ x) ∷ pre) rest y
-      kept rest y e w u = record { marked = marks-kept; ends = e; waiting = w; unseen = u; news = (i .unseen, i .ends .2, i .news) }
+      kept rest y e w u =
+          record { marked = marks-kept; ends = e; waiting = w; unseen = u; news = (i .unseen, i .ends .2, i .news) }
 
     -- at a C the right neighbour is not visited, since it has the tip
     clear : mem (lab x) (marks lab g pre) ≡ false → seen ((C ＠ x) ∷ pre) (right opp x) ≡ false
@@ -142,7 +154,8 @@ module _ {lab opp : ℕ → ℕ} {t v g : ℕ} (mesh : Sphere lab opp t v g) whe
       where
         bad : (eqb (triangle (right opp x)) (triangle x) ≡ true) ⊎ (seen pre (right opp x) ≡ true) → ⊥
         bad (inl q) =
-            other-triangle mesh (next x) (next-low t x (i .ends .2)) (eqb-true (triangle (right opp x)) (triangle x) q ∙ sym (triangle-next x))
+            other-triangle mesh (next x) (next-low t x (i .ends .2))
+            (eqb-true (triangle (right opp x)) (triangle x) q ∙ sym (triangle-next x))
         bad (inr q) =
             let m = i .marked (next (right opp x)) (seen-next pre (right opp x) ∙ q) in
             not-both (mem (lab x) (marks lab g pre)) (rw right-tip at m) h
@@ -156,11 +169,15 @@ module _ {lab opp : ℕ → ℕ} {t v g : ℕ} (mesh : Sphere lab opp t v g) whe
 
     pub kept-L : Says pre x L → State ((L ＠ x) ∷ pre) st (right opp x)
     unfolding seen
-    kept-L (says-L m y z) = let tip = mono L x (lab x) pre m in kept L tip st (right opp x) (right-ends L tip) (waits L tip) z
+    kept-L (says-L m y z) =
+        let tip = mono L x (lab x) pre m in
+        kept L tip st (right opp x) (right-ends L tip) (waits L tip) z
 
     pub kept-R : Says pre x R → State ((R ＠ x) ∷ pre) st (left opp x)
     unfolding seen
-    kept-R (says-R m y z) = let tip = mono R x (lab x) pre m in kept R tip st (left opp x) (left-ends R tip) (waits R tip) y
+    kept-R (says-R m y z) =
+        let tip = mono R x (lab x) pre m in
+        kept R tip st (left opp x) (left-ends R tip) (waits R tip) y
 
     pub kept-S : Says pre x S → State ((S ＠ x) ∷ pre) (left opp x ∷ st) (right opp x)
     unfolding seen
@@ -168,7 +185,8 @@ module _ {lab opp : ℕ → ℕ} {t v g : ℕ} (mesh : Sphere lab opp t v g) whe
         let tip = mono S x (lab x) pre m in
         kept S tip (left opp x ∷ st) (right opp x) (right-ends S tip) (left-ends S tip, waits S tip) z
 
-    pub kept-E : {rest : List ℕ} {d : ℕ} → Says pre x E → Drop ((E ＠ x) ∷ pre) st (d ∷ rest) → seen ((E ＠ x) ∷ pre) d ≡ false
+    pub kept-E : {rest : List ℕ} {d : ℕ} → Says pre x E → Drop ((E ＠ x) ∷ pre) st (d ∷ rest)
+        → seen ((E ＠ x) ∷ pre) d ≡ false
         → State ((E ＠ x) ∷ pre) rest d
     kept-E {rest = rest} {d = d} (says-E m y u) z h =
         let tip = mono E x (lab x) pre m in

@@ -44,7 +44,8 @@ letter-beyond ((a ＠ d) ∷ q) (suc k) h = letter-beyond q k (omega arith)
 abbrev pub cornerOf : List Step → ℕ → ℕ
 cornerOf q k = getD (cornersOf q) k (3 * k)
 
-pub record Walked {lab opp : ℕ → ℕ} {t v g : ℕ} (mesh : Sphere lab opp t v g) (sp : ℕ → Letter) (co : ℕ → ℕ) : Type 0 where
+pub record Walked {lab opp : ℕ → ℕ} {t v g : ℕ} (mesh : Sphere lab opp t v g) (sp : ℕ → Letter)
+    (co : ℕ → ℕ) : Type 0 where
   pub start : co 0 ≡ g
   pub facts : (k : ℕ) → k < t → Fact mesh sp co t k
   pub seen-all : (c : ℕ) → c < 3 * t → Earlier co t c

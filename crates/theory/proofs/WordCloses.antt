@@ -25,7 +25,8 @@ use Rattle.theory.specs.Tables.{joins, links, tableO, zips}
 use Rattle.theory.specs.Word.{Sound, size, width}
 use Rattle.theory.specs.declared.Letter.{Letter}
 
-module _ {lab opp : ℕ → ℕ} {t v g : ℕ} {mesh : Sphere lab opp t v g} {sp : ℕ → Letter} {co : ℕ → ℕ} (walk : Worded mesh sp co) where
+module _ {lab opp : ℕ → ℕ} {t v g : ℕ} {mesh : Sphere lab opp t v g} {sp : ℕ → Letter} {co : ℕ → ℕ}
+    (walk : Worded mesh sp co) where
   abbrev Meet : ℕ → ℕ → Type 0
   Meet = Faces opp co
 
@@ -45,7 +46,8 @@ module _ {lab opp : ℕ → ℕ} {t v g : ℕ} {mesh : Sphere lab opp t v g} {sp
   at-gate b (y, q, u, z) = let e : y ≡ 0 = omega arith in q ∙ ap (carry co) e
 
   -- two sides that face the gate are one
-  lone : (os : List ℕ) → 1 ≤ length os → EachN (Outward opp sp co 0) os → ((b : ℕ) → count b os ≤ 1) → (length os ≡ 1) × Both Meet os (0 ∷ [])
+  lone : (os : List ℕ) → 1 ≤ length os → EachN (Outward opp sp co 0) os → ((b : ℕ) → count b os ≤ 1)
+      → (length os ≡ 1) × Both Meet os (0 ∷ [])
   unfolding count
   lone [] h o d = absurd (omega arith)
   lone (b ∷ []) h o d = (refl, (at-gate b (o .0), tt))
@@ -62,7 +64,8 @@ module _ {lab opp : ℕ → ℕ} {t v g : ℕ} {mesh : Sphere lab opp t v g} {sp
       let x = walk .word in
       let m = length-opens 0 x word-sound in
       let two = width-two x word-sound in
-      lone (opens 0 x) (omega arith) (matched .opens-out) (λ b. let a = cover b 0 x word-sound in let d = tris-once b (size x) 0 in omega arith)
+      lone (opens 0 x) (omega arith) (matched .opens-out)
+      (λ b. let a = cover b 0 x word-sound in let d = tris-once b (size x) 0 in omega arith)
 
   pub word-two : width (walk .word) ≡ 2
   word-two = let m = length-opens 0 (walk .word) word-sound in let r = root-open .0 in omega arith
@@ -72,7 +75,8 @@ module _ {lab opp : ℕ → ℕ} {t v g : ℕ} {mesh : Sphere lab opp t v g} {sp
   joins-hold =
       let x = walk .word in
       let two = word-two in
-      each-append Meet (links 0 x) (zips 0 x (0 ∷ [])) (walk .links-face) (up Meet 0 x (0 ∷ []) word-sound (omega arith) mates-hold (root-open .1))
+      each-append Meet (links 0 x) (zips 0 x (0 ∷ [])) (walk .links-face)
+      (up Meet 0 x (0 ∷ []) word-sound (omega arith) mates-hold (root-open .1))
 
   pub carry-opposite : (y : ℕ) → y < 3 * t → opp (carry co y) ≡ carry co (opposite (tableO (walk .word)) y)
   carry-opposite y h =
