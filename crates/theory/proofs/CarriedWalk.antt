@@ -79,8 +79,8 @@ module _ {lab opp lab′ opp′ : ℕ → ℕ} {t v g g′ : ℕ} {h a : ℕ →
   seen-map [] c l b = refl
   seen-map ((x ＠ d) ∷ pre) c l b =
       let e =
-          eqb-iff (triangle (h c)) (triangle (h d)) (triangle c) (triangle d) (triangle-from c d b (l .0))
-          (triangle-to c d (l .0)) in
+      eqb-iff (triangle (h c)) (triangle (h d)) (triangle c) (triangle d) (triangle-from c d b (l .0))
+      (triangle-to c d (l .0)) in
       rw (e, seen-map pre c (l .1) b)
 
   eqb-name : (u w : ℕ) → u < v → w < v → eqb (a u) (a w) ≡ eqb u w
@@ -132,9 +132,9 @@ module _ {lab opp lab′ opp′ : ℕ → ℕ} {t v g g′ : ℕ} {h a : ℕ →
   unfolding letterAt mapSteps
   letter-map pre c l b =
       let p : seen ((E ＠ h c) ∷ mapSteps h pre) (left opp′ (h c)) ≡ seen ((E ＠ c) ∷ pre) (left opp c) =
-          rw (left-map c b) (seen-map ((E ＠ c) ∷ pre) (left opp c) (b, l) (left-low c b)) in
+      rw (left-map c b) (seen-map ((E ＠ c) ∷ pre) (left opp c) (b, l) (left-low c b)) in
       let q : seen ((E ＠ h c) ∷ mapSteps h pre) (right opp′ (h c)) ≡ seen ((E ＠ c) ∷ pre) (right opp c) =
-          rw (right-map c b) (seen-map ((E ＠ c) ∷ pre) (right opp c) (b, l) (right-low c b)) in
+      rw (right-map c b) (seen-map ((E ＠ c) ∷ pre) (right opp c) (b, l) (right-low c b)) in
       rw (marks-map pre c l b, p, q)
 
   -- carried, as far as n steps go

@@ -109,14 +109,14 @@ module _ {lab opp : ℕ → ℕ} {t v g : ℕ} (mesh : Sphere lab opp t v g) (sp
     after : {rest : List ℕ} {y : ℕ} → State mesh ((a ＠ x) ∷ pre) rest y → Backed (suc (length pre)) y
         → EachN (Backed (suc (length pre))) rest → Here m ((a ＠ x) ∷ pre) rest y q
     after s b w = let n = p .total in
-      record {
-        state = s;
-        behind = (p .ahead .0, at, p .behind);
-        ahead = p .ahead .2;
-        total = omega arith;
-        backed = λ z. b;
-        waiting = w;
-      }
+        record {
+          state = s;
+          behind = (p .ahead .0, at, p .behind);
+          ahead = p .ahead .2;
+          total = omega arith;
+          backed = λ z. b;
+          waiting = w;
+        }
 
     -- the neighbour of x over one of its sides y has its own bottom neighbour at x
     beside : (y : ℕ) → triangle y ≡ triangle x → Backed (suc (length pre)) (opp y)
@@ -150,7 +150,7 @@ module _ {lab opp : ℕ → ℕ} {t v g : ℕ} (mesh : Sphere lab opp t v g) (sp
     unfolding seen
     later y f w =
         let b : seen ((a ＠ x) ∷ pre) y ≡ true =
-            before-seen lab g sp co ((a ＠ x) ∷ pre) (p .ahead .0, at, p .behind) y w in
+        before-seen lab g sp co ((a ＠ x) ∷ pre) (p .ahead .0, at, p .behind) y w in
         not-both (seen ((a ＠ x) ∷ pre) y) b f
 
   -- dropped lefts are visited
@@ -213,7 +213,7 @@ module _ {lab opp : ℕ → ℕ} {t v g : ℕ} (mesh : Sphere lab opp t v g) (sp
       let d = headed z (suc (length pre)) (p .ahead .2) in
       let n = p .total in
       let lefts : EachN (Backed (suc (length pre))) (left opp x ∷ st) =
-          (beside p (previous x) (triangle-previous x), still p) in
+      (beside p (previous x) (triangle-previous x), still p) in
       let r = index z (after p (kept-S mesh (p .state) w) (beside p (next x) (triangle-next x)) lefts) in
       (more p (side-S (omega arith) p w (d .0) (r .1 .0)) (r .0), r .1 .1)
   index {m = m} (resume {pre = pre} {x = x} h dr un z) p =
@@ -223,12 +223,11 @@ module _ {lab opp : ℕ → ℕ} {t v g : ℕ} (mesh : Sphere lab opp t v g) (sp
       let backs = dropped-each mesh (Backed (suc (length pre))) dr (still p) in
       let r = index z (after p (kept-E mesh (p .state) w dr un) (backs .0) (backs .1)) in
       let lefts =
-          dropped m dr (p .ahead .0, at p, p .behind) (omega arith)
-          ((suc (length pre), omega arith, ap triangle (sym (d .0))), r .1) in
+      dropped m dr (p .ahead .0, at p, p .behind) (omega arith)
+      ((suc (length pre), omega arith, ap triangle (sym (d .0))), r .1) in
       (more p (side-E p w) (r .0), lefts)
   index {m = m} (end {pre = pre} {x = x} h dr) p =
-      let n = p .total in
-      (
+      let n = p .total in (
         more p (side-E p (says mesh pre x E h)) (λ k b f. absurd (omega arith)),
         dropped m dr (p .ahead .0, at p, p .behind) (omega arith) tt,
       )

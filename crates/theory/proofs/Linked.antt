@@ -108,13 +108,12 @@ module _ (opp : ℕ → ℕ) (sp : ℕ → Letter) (co : ℕ → ℕ) where
       let len = follows-length opp x (right opp d) q₁ m in
       let past : suc k + length q₁ ≡ k + 1 + size x = omega arith in
       let i =
-          subst (Linked x (right opp d)) (sym (add-one k))
-          (linked x (right opp d) (suc k) q₁ m (ahead-left (suc k) q₁ q₂ (z .2))) in
+      subst (Linked x (right opp d)) (sym (add-one k))
+      (linked x (right opp d) (suc k) q₁ m (ahead-left (suc k) q₁ q₂ (z .2))) in
       let j =
-          subst (Linked y (left opp d)) past
-          (linked y (left opp d) (suc k + length q₁) q₂ n (ahead-right (suc k) q₁ q₂ (z .2))) in
-      let both = each-append (Faces opp co) (links (k + 1) x) (links (k + 1 + size x) y) (i .2) (j .2) in
-      (
+      subst (Linked y (left opp d)) past
+      (linked y (left opp d) (suc k + length q₁) q₂ n (ahead-right (suc k) q₁ q₂ (z .2))) in
+      let both = each-append (Faces opp co) (links (k + 1) x) (links (k + 1 + size x) y) (i .2) (j .2) in (
         z .1,
         (z .0, i .1, j .1),
         (join-right k (k + 1) d (z .1) (i .0), (join-left k (k + 1 + size x) d (z .1) (j .0), both)),

@@ -11,7 +11,7 @@ use mathlib.Core.Path.{_∙_, _≡_, ap, sym}
 use Prim.Native.Nat.{_*_, _+_, _-_, _≤_, suc, zero, ℕ}
 use native.Mathlib.Omega.{arith}
 use lib.ListN.{drop, getD, length, length-append, take}
-use Rattle.theory.proofs.Chain.{Each, each-left, each-right}
+use Rattle.theory.proofs.Chain.{Each, each-split}
 use Rattle.theory.proofs.CornerLaws.{next-right, next-tip, previous-left, previous-right}
 use Rattle.theory.proofs.ListLaws.{back-take, snoc-view}
 use Rattle.theory.proofs.Opens.{length-opens, mates, opens}
@@ -169,26 +169,24 @@ module _ (M N lab : ℕ → ℕ) where
       → Fitted a (k + 1) nv (take (width a) us) × Fitted b (k + 1 + size a) (nv + news a) (drop (width a - 1) us)
   unfolding links mates opens
   fitted-S {a = a} {b = b} {k = k} {us = us} p =
-      let la = links (k + 1) a in
-      let lb = links (k + 1 + size a) b in
-      let ma = mates (k + 1) a in
-      let mb = mates (k + 1 + size a) b in
+      let l = each-split (SameEnds M) (links (k + 1) a) (links (k + 1 + size a) b) (p .links-same .1 .1) in
+      let m = each-split (SameEnds M) (mates (k + 1) a) (mates (k + 1 + size a) b) (p .mates-same) in
       let n = length-opens (k + 1) a (p .sound .0) in
       let two = width-two a (p .sound .0) in
       let one : suc (width a - 1) ≡ width a = omega arith in
       let h = fit-split M N (width a - 1) us (opens (k + 1) a) (opens (k + 1 + size a) b) (omega arith) (p .fit) in (
         record {
           sound = p .sound .0;
-          links-same = each-left (SameEnds M) la lb (p .links-same .1 .1);
-          mates-same = each-left (SameEnds M) ma mb (p .mates-same);
+          links-same = l .0;
+          mates-same = m .0;
           names = p .names .0;
           fit = rw one at (h .0);
           rows = p .rows .1;
         },
         record {
           sound = p .sound .1;
-          links-same = each-right (SameEnds M) la lb (p .links-same .1 .1);
-          mates-same = each-right (SameEnds M) ma mb (p .mates-same);
+          links-same = l .1;
+          mates-same = m .1;
           names = p .names .1;
           fit = h .1;
           rows = p .rows .2;
@@ -205,7 +203,7 @@ module _ (M N lab : ℕ → ℕ) where
       let len = fit-length M N us (opens (k + 1) a ++ opens (k + 1 + size a) b) (p .fit) in
       let both = length-append (opens (k + 1) a) (opens (k + 1 + size a) b) in
       let last : back (take (width a) us) ≡ getD us (width a - 1) 0 =
-          rw one at (back-take (width a - 1) us (omega arith)) in
+      rw one at (back-take (width a - 1) us (omega arith)) in
       ap M (sym (previous-left k)) ∙ p .links-same .0 .0 ∙ ap M (next-tip (k + 1)) ∙ ends-at (fitted-S p .0) .1
       ∙ ap N last
 

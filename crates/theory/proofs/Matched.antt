@@ -13,7 +13,7 @@ use native.Mathlib.Decide.{decLt, ℕ-discrete}
 use native.Mathlib.Omega.{arith}
 use lib.ListN.{length, length-append}
 use Rattle.theory.proofs.Carry.{carry, carry-inj}
-use Rattle.theory.proofs.Chain.{Each, each-append, each-left, each-map, each-right}
+use Rattle.theory.proofs.Chain.{Each, each-append, each-map, each-split}
 use Rattle.theory.proofs.CornerLaws.{next-left, next-right, next-tip, previous-left, previous-right, previous-tip}
 use Rattle.theory.proofs.Counting.{bit-refl, count, count-append, eachN-absent, tris-once}
 use Rattle.theory.proofs.Each.{EachN, eachN-append, eachN-both, eachN-last, eachN-left, eachN-map}
@@ -27,7 +27,7 @@ use Rattle.theory.proofs.WholeRun.{Walked}
 use Rattle.theory.proofs.WordLaws.{width-two}
 use Rattle.theory.specs.Corner.{next}
 use Rattle.theory.specs.Lists.{back, front}
-use Rattle.theory.specs.Mesh.{Sphere}
+use Rattle.theory.specs.Mesh.{Sphere, facing}
 use Rattle.theory.specs.Tables.{links}
 use Rattle.theory.specs.Word.{Sound, Word, size, wC, wE, wL, wR, wS, width}
 use Rattle.theory.specs.declared.Letter.{Letter}
@@ -113,7 +113,7 @@ module _ {lab opp : ℕ → ℕ} {t v g : ℕ} {mesh : Sphere lab opp t v g} {sp
   wide k b [] c h jn g0 =
       let a : at (3 * k + 1) ≡ at (next b) = rw previous-right at (faces-ends mesh co b (3 * k + 2) jn .1) in
       let d : at (3 * (k + 1) + 2) ≡ at (3 * k + 2) =
-          rw (previous-tip, next-left) at (faces-ends mesh co (3 * k + 1) (3 * (k + 1)) g0 .1) in
+      rw (previous-tip, next-left) at (faces-ends mesh co (3 * k + 1) (3 * (k + 1)) g0 .1) in
       absurd (apart-at run k c (a ∙ h ∙ d))
   wide k b (x ∷ xs) c h jn g0 = omega arith
 
@@ -135,27 +135,26 @@ module _ {lab opp : ℕ → ℕ} {t v g : ℕ} {mesh : Sphere lab opp t v g} {sp
     close-at bs b e =
         let across = each-map Meet (SameEnds at) (faces-ends mesh co) in
         let path =
-            open-path at (k + 1) w (i .sound) (across (links (k + 1) w) face)
-            (across (mates (k + 1) w) (i .mates-face)) in
+        open-path at (k + 1) w (i .sound) (across (links (k + 1) w) face)
+        (across (mates (k + 1) w) (i .mates-face)) in
         let last = path-last at (3 * (k + 1) + 2) bs b (3 * (k + 1) + 1) (rw e at path) in
         let o = eachN-last (Out (k + 1)) bs b (rw e at (i .opens-out)) in
         let tip : at (3 * k) ≡ at (3 * (k + 1) + 1) =
-            rw (previous-left, next-tip) at (faces-end mesh co (3 * k + 1) (3 * (k + 1)) begins) in
+        rw (previous-left, next-tip) at (faces-end mesh co (3 * k + 1) (3 * (k + 1)) begins) in
         let y = found k (o .0) c (o .2) (o .3) (tip ∙ last .1 ∙ faces-end mesh co b (o .0) (o .1)) in
         let jn : Meet b (3 * k + 2) = o .1 ∙ ap (carry co) y in
         let big = wide k b bs c (last .0) jn begins in
         let n = length-opens (k + 1) w (i .sound) in
         let m = ap length e ∙ length-append bs (b ∷ []) in
         let lo =
-            eachN-last
-            (λ x. (3 * (k + 1) < x) × (x < 3 * (k + 1 + size w))) bs b (rw e at (opens-low (k + 1) w (i .sound))) in
-        let rest = eachN-left (Out (k + 1)) bs (b ∷ []) (rw e at (i .opens-out)) in
-        (
+        eachN-last
+        (λ x. (3 * (k + 1) < x) × (x < 3 * (k + 1 + size w))) bs b (rw e at (opens-low (k + 1) w (i .sound))) in
+        let rest = eachN-left (Out (k + 1)) bs (b ∷ []) (rw e at (i .opens-out)) in (
           omega arith,
           jn,
           lo .1,
           eachN-both (Out (k + 1)) (λ x. x ≢ b) (Out k)
-          (λ x p ne. below x b jn p ne) bs rest (lone (k + 1) w bs b e (i .sound)),
+              (λ x p ne. below x b jn p ne) bs rest (lone (k + 1) w bs b e (i .sound)),
         )
       where
         below : (x b : ℕ) → Meet b (3 * k + 2) → Out (k + 1) x → x ≢ b → Out k x
@@ -176,13 +175,14 @@ module _ {lab opp : ℕ → ℕ} {t v g : ℕ} {mesh : Sphere lab opp t v g} {sp
         go : (3 ≤ width w) × Meet (back (opens (k + 1) w)) (3 * k + 2) × (back (opens (k + 1) w) < 3 * (k + 1 + size w))
             × EachN (Out k) (front (opens (k + 1) w)) → Matched k (wC w)
         go z =
-          let b = back (opens (k + 1) w) in
-          record {
-          sound = (i .sound, z .0);
-          mates-face = (z .1, i .mates-face);
-          inner = inner-first k (size w) (λ q. (b, faces-turn mesh co b (3 * k + 2) (z .1), omega arith)) (i .inner);
-          opens-out = z .3;
-        }
+            let b = back (opens (k + 1) w) in
+            let facing = faces-turn mesh co b (3 * k + 2) (z .1) in
+            record {
+              sound = (i .sound, z .0);
+              mates-face = (z .1, i .mates-face);
+              inner = inner-first k (size w) (λ q. (b, facing, omega arith)) (i .inner);
+              opens-out = z .3;
+            }
 
   -- an open side of the left branch faces no C of the right branch
   over : (k : ℕ) (a : Word) (x : ℕ) → (sp k ≡ C → ⊥) → Inner (k + 1) (size a) → Out (k + 1 + size a) x
@@ -228,16 +228,16 @@ module _ {lab opp : ℕ → ℕ} {t v g : ℕ} {mesh : Sphere lab opp t v g} {sp
         opens-out = (out-R run lefts k (s .0), lower-all k (opens (k + 1) w) no-c (i .opens-out));
       }
   match k (wS a b) s g =
-      let i = match (k + 1) a (s .1) (each-left Meet (links (k + 1) a) (links (k + 1 + size a) b) (g .1 .1)) in
-      let d =
-          match (k + 1 + size a) b (s .2) (each-right Meet (links (k + 1) a) (links (k + 1 + size a) b) (g .1 .1)) in
+      let parts = each-split Meet (links (k + 1) a) (links (k + 1 + size a) b) (g .1 .1) in
+      let i = match (k + 1) a (s .1) (parts .0) in
+      let d = match (k + 1 + size a) b (s .2) (parts .1) in
       let no-c : sp k ≡ C → ⊥ = λ q. letters-differ S C refl (sym (s .0) ∙ q) in
       let oa = opens (k + 1) a in
       let ob = opens (k + 1 + size a) b in
       let behind =
-          eachN-both (Out (k + 1 + size a))
-          (λ x. (3 * (k + 1 + size a) < x) × (x < 3 * (k + 1 + size a + size b))) (Out k)
-          (λ x o u. over k a x no-c (i .inner) o (u .0)) ob (d .opens-out) (opens-low (k + 1 + size a) b (d .sound)) in
+      eachN-both (Out (k + 1 + size a))
+      (λ x. (3 * (k + 1 + size a) < x) × (x < 3 * (k + 1 + size a + size b))) (Out k)
+      (λ x o u. over k a x no-c (i .inner) o (u .0)) ob (d .opens-out) (opens-low (k + 1 + size a) b (d .sound)) in
       record {
         sound = (i .sound, d .sound);
         mates-face = each-append Meet (mates (k + 1) a) (mates (k + 1 + size a) b) (i .mates-face) (d .mates-face);

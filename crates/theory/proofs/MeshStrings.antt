@@ -1,13 +1,14 @@
--- Round trip and renumbering for tables: what accepted meshes and their strings have to do with each other.
+-- T3 and T4 for tables: what accepted meshes and their strings have to do with each other.
 --
--- Rule 13's ring part (`rings`) is not used: the other rules are enough.
+-- Rule 13's ring part (`rings`) is not used.
 --
---   mesh-round          T3: the walk of an accepted mesh has t steps, and reading its string back gives the mesh
---   mesh-closes         its string closes
---   letters-length corners-length   its string and its walk table have t entries
---   strings-sizes strings-renumber  T4: equal strings, so equal sizes and a renumbering ..
---   renumber-strings                .. and back
---   renumber-corners renumber-vertices   there is only one renumbering, shown by the two walk tables
+--   mesh-round           T3: the walk of an accepted mesh has t steps, and reading its string back gives the mesh
+--   mesh-closes          its string closes
+--   letters-length corners-length    its string and its walk table have t entries
+--   strings-sizes strings-renumber   T4: equal strings, so equal sizes and a renumbering ..
+--   renumber-strings                 .. and back
+--   renumber-corners renumber-vertices   there is only one renumbering, ..
+--   corners-by-walk                  .. which the two walk tables show
 use mathlib.Core.Bool.{_&&_, true}
 use mathlib.Core.List.{List}
 use mathlib.Core.Path.{_∙_, _≡_}
@@ -16,29 +17,27 @@ use native.Mathlib.Omega.{arith}
 use lib.Dec.{eqb}
 use lib.ListN.{length}
 use borrow.Author.Tests.{eqb-true}
-use Rattle.theory.proofs.Renumbered.{cornerMap, equal-strings, only-corners, only-vertices, renumbered, same-t, same-v, vertexMap}
+use Rattle.theory.proofs.ListLaws.{third}
+use Rattle.theory.proofs.Renumbered.{corner-at, cornerMap, equal-strings, only-corners, only-vertices, renumbered, same-t, same-v, vertexMap}
 use Rattle.theory.proofs.RoundTrip.{Round, round, round-closes}
 use Rattle.theory.proofs.TestLaws.{and-left, and-right}
 use Rattle.theory.proofs.WholeRun.{length-corners, length-letters}
 use Rattle.theory.specs.Answer.{countOk}
 use Rattle.theory.specs.Corner.{opposite, vertex}
 use Rattle.theory.specs.Mesh.{Accepted, shapeOk}
-use Rattle.theory.specs.Renumber.{Renumbering}
+use Rattle.theory.specs.Renumber.{Renumbering, byWalk}
 use Rattle.theory.specs.Walk.{cornersOf, lettersOf, meshWalk}
 use Rattle.theory.specs.Word.{Closes}
 
-pub shape-length : (vs os : List ℕ) → shapeOk vs os ≡ true → (length vs ≡ length os) × (length vs ≡ 3 * (length vs / 3))
+shape-length : (vs os : List ℕ) → shapeOk vs os ≡ true → length vs ≡ 3 * (length vs / 3)
 unfolding shapeOk
 shape-length vs os h =
-    let rest = and-right (eqb (length vs) (length os)) (eqb (length vs % 3) 0 && countOk (length vs / 3)) h in
-    let a =
-        eqb-true (length vs) (length os)
-        (and-left (eqb (length vs) (length os)) (eqb (length vs % 3) 0 && countOk (length vs / 3)) h) in
-    let b = eqb-true (length vs % 3) 0 (and-left (eqb (length vs % 3) 0) (countOk (length vs / 3)) rest) in
-    (a, omega arith)
+    let third = countOk (length vs / 3) in
+    let rest = and-right (eqb (length vs) (length os)) (eqb (length vs % 3) 0 && third) h in
+    let e = eqb-true (length vs % 3) 0 (and-left (eqb (length vs % 3) 0) third rest) in
+    omega arith
 
 module _ {vs os : List ℕ} {v g : ℕ} (m : Accepted vs os v g) where
-  -- T3
   pub mesh-round : Round (vertex vs) (opposite os) (length vs / 3) v g (meshWalk vs os g)
   unfolding meshWalk
   mesh-round = round (m .sphere)
@@ -53,33 +52,37 @@ module _ {vs os : List ℕ} {v g : ℕ} (m : Accepted vs os v g) where
   corners-length = length-corners (meshWalk vs os g) ∙ mesh-round .long
 
 module _ {vs os vs′ os′ : List ℕ} {v g v′ g′ : ℕ} (m : Accepted vs os v g) (m′ : Accepted vs′ os′ v′ g′) where
-  abbrev pub OneMesh : (ℕ → ℕ) → (ℕ → ℕ) → Type 0
-  OneMesh h a = Renumbering (vertex vs) (opposite os) (vertex vs′) (opposite os′) (length vs / 3) v g g′ h a
+  abbrev pub SameString : Type 0
+  SameString = lettersOf (meshWalk vs os g) ≡ lettersOf (meshWalk vs′ os′ g′)
 
-  abbrev pub Alike : Type 0
-  Alike = lettersOf (meshWalk vs os g) ≡ lettersOf (meshWalk vs′ os′ g′)
+  abbrev pub SameMesh : (ℕ → ℕ) → (ℕ → ℕ) → Type 0
+  SameMesh h a = Renumbering (vertex vs) (opposite os) (vertex vs′) (opposite os′) (length vs / 3) v g g′ h a
 
-  -- the renumbering, in the end
-  pub meshCorners : ℕ → ℕ
+  -- the renumbering
+  unfoldable pub meshCorners : ℕ → ℕ
   meshCorners = cornerMap (mesh-round m) (mesh-round m′)
 
-  pub meshVertices : ℕ → ℕ
+  unfoldable pub meshVertices : ℕ → ℕ
   meshVertices = vertexMap (mesh-round m) (mesh-round m′)
 
-  -- T4
-  pub strings-sizes : Alike → (length vs ≡ length vs′) × (v ≡ v′)
+  pub corners-by-walk : (x : ℕ)
+      → meshCorners (byWalk (cornersOf (meshWalk vs os g)) x) ≡ byWalk (cornersOf (meshWalk vs′ os′ g′)) x
+  unfolding meshCorners
+  corners-by-walk = corner-at (mesh-round m) (mesh-round m′)
+
+  pub strings-sizes : SameString → (length vs ≡ length vs′) × (v ≡ v′)
   strings-sizes s =
       let a = same-t (mesh-round m) (mesh-round m′) s in
-      let b = shape-length vs os (m .shape) .1 in
-      let d = shape-length vs′ os′ (m′ .shape) .1 in
+      let b = shape-length vs os (m .shape) in
+      let d = shape-length vs′ os′ (m′ .shape) in
       (omega arith, same-v (mesh-round m) (mesh-round m′) s)
 
-  pub strings-renumber : Alike → OneMesh meshCorners meshVertices
+  pub strings-renumber : SameString → SameMesh meshCorners meshVertices
   unfolding meshCorners meshVertices
   strings-renumber s = renumbered (mesh-round m) (mesh-round m′) s
 
-  module _ (n : length vs ≡ length vs′) {h a : ℕ → ℕ} (iso : OneMesh h a) where
-    pub renumber-strings : Alike
+  module _ (n : length vs ≡ length vs′) {h a : ℕ → ℕ} (iso : SameMesh h a) where
+    pub renumber-strings : SameString
     unfolding meshWalk
     renumber-strings = equal-strings (m .sphere) (m′ .sphere) (omega arith) iso
 

@@ -35,7 +35,7 @@ names-of M N wE k nv h = tt
 names-of M N (wC w) k nv h = (
   rw (add-zero nv) at (h 0 (omega arith)),
   names-of M N w (k + 1) (nv + 1)
-  (λ i b. let u : nv + 1 + i ≡ nv + suc i = omega arith in rw u (h (suc i) (omega arith))),
+      (λ i b. let u : nv + 1 + i ≡ nv + suc i = omega arith in rw u (h (suc i) (omega arith))),
 )
 names-of M N (wL w) k nv h = names-of M N w (k + 1) nv h
 names-of M N (wR w) k nv h = names-of M N w (k + 1) nv h

@@ -10,7 +10,7 @@ use Prim.Native.Nat.{_*_, _+_, _<_, _≤_, suc, ℕ}
 use native.Mathlib.Decide.{decLt, ℕ-discrete}
 use native.Mathlib.Omega.{arith}
 use Rattle.theory.proofs.Carry.{carry, carry-inj, carry-left, carry-low, carry-mate, carry-right, carry-tip, carry-triangle, mate, mate-at, mate-mate}
-use Rattle.theory.proofs.Chain.{Each, each-left, each-right}
+use Rattle.theory.proofs.Chain.{Each, each-split}
 use Rattle.theory.proofs.CornerLaws.{Place, at-left, at-right, at-tip, next-low, next-next, place, triangle-high, triangle-left, triangle-low, triangle-right, triangle-tip}
 use Rattle.theory.proofs.LetterLaws.{letters-differ}
 use Rattle.theory.proofs.Linked.{Faces, Spells}
@@ -50,12 +50,9 @@ module _ (opp : ℕ → ℕ) (sp : ℕ → Letter) (co : ℕ → ℕ) where
   split-left (wL x) k h m = split-one k (size x) L (h .0) (letters-differ L S refl) (split-left x (k + 1) (h .1) (m .1))
   split-left (wR x) k h m = split-one k (size x) R (h .0) (letters-differ R S refl) (split-left x (k + 1) (h .1) (m .1))
   split-left (wS x y) k h m =
-      let ja =
-          split-left x (k + 1) (h .1)
-          (each-left (Faces opp co) (links (k + 1) x) (links (k + 1 + size x) y) (m .1 .1)) in
-      let jb =
-          split-left y (k + 1 + size x) (h .2)
-          (each-right (Faces opp co) (links (k + 1) x) (links (k + 1 + size x) y) (m .1 .1)) in
+      let parts = each-split (Faces opp co) (links (k + 1) x) (links (k + 1 + size x) y) (m .1 .1) in
+      let ja = split-left x (k + 1) (h .1) (parts .0) in
+      let jb = split-left y (k + 1 + size x) (h .2) (parts .1) in
       λ j p q u. go ja jb j p q u (ℕ-discrete j k) (decLt j (k + 1 + size x))
     where
       go : SplitLeft (k + 1) (size x) → SplitLeft (k + 1 + size x) (size y) → (j : ℕ) → k ≤ j

@@ -42,7 +42,7 @@ module _ {lab opp lab′ opp′ : ℕ → ℕ} {t v g t′ v′ g′ : ℕ} {ste
   corner-next c =
       let x = r .back c in
       let a : next c ≡ byWalk (cornersOf steps) (next x) =
-          ap next (sym (r .there c)) ∙ sym (by-walk-next (cornersOf steps) x) in
+      ap next (sym (r .there c)) ∙ sym (by-walk-next (cornersOf steps) x) in
       ap cornerMap a ∙ corner-at (next x) ∙ by-walk-next (cornersOf steps′) x
 
   corner-inj : (c d : ℕ) → cornerMap c ≡ cornerMap d → c ≡ d
@@ -71,7 +71,7 @@ module _ {lab opp lab′ opp′ : ℕ → ℕ} {t v g t′ v′ g′ : ℕ} {ste
         let e = same-t in
         let y = opposite (tableO (r .word)) x in
         let a : opp c ≡ byWalk (cornersOf steps) (opposite (tableO (r .word)) (r .back c)) =
-            ap opp (sym (r .there c)) ∙ r .neighbours x l in
+        ap opp (sym (r .there c)) ∙ r .neighbours x l in
         ap cornerMap a ∙ corner-at y ∙ ap (λ (w : Word). byWalk (cornersOf steps′) (opposite (tableO w) x)) same-word
         ∙ sym (r′ .neighbours x (omega arith))
 
@@ -83,7 +83,7 @@ module _ {lab opp lab′ opp′ : ℕ → ℕ} {t v g t′ v′ g′ : ℕ} {ste
         let e = same-t in
         let a : lab c ≡ r .name (vertex (tableV (r .word)) (r .back c)) = ap lab (sym (r .there c)) ∙ r .vertices x l in
         let d : r .unname (lab c) ≡ vertex (tableV (r .word)) (r .back c) =
-            ap (r .unname) a ∙ r .unname-name (vertex (tableV (r .word)) x) (r .read-low x l) in
+        ap (r .unname) a ∙ r .unname-name (vertex (tableV (r .word)) x) (r .read-low x l) in
         r′ .vertices x (omega arith) ∙ ap (r′ .name) (ap (λ (w : Word). vertex (tableV w) x) (sym same-word) ∙ sym d)
 
     -- T4, from strings to meshes
@@ -99,7 +99,7 @@ module _ {lab opp lab′ opp′ : ℕ → ℕ} {t v g t′ v′ g′ : ℕ} {ste
       vertex = corner-vertex;
       names-low =
           λ u b. let e =
-              same-v in let l = r .unname-low u b in let z = r′ .name-low (r .unname u) (omega arith) in omega arith;
+          same-v in let l = r .unname-low u b in let z = r′ .name-low (r .unname u) (omega arith) in omega arith;
       names-inj = names-inj;
     }
       where
@@ -109,8 +109,8 @@ module _ {lab opp lab′ opp′ : ℕ → ℕ} {t v g t′ v′ g′ : ℕ} {ste
             let lu = r .unname-low u p in
             let lw = r .unname-low w q in
             let a : r .unname u ≡ r .unname w =
-                sym (r′ .unname-name (r .unname u) (omega arith)) ∙ ap (r′ .unname) e
-                ∙ r′ .unname-name (r .unname w) (omega arith) in
+            sym (r′ .unname-name (r .unname u) (omega arith)) ∙ ap (r′ .unname) e
+            ∙ r′ .unname-name (r .unname w) (omega arith) in
             sym (r .name-unname u p) ∙ ap (r .name) a ∙ r .name-unname w q
 
 module _ {lab opp lab′ opp′ : ℕ → ℕ} {t v g t′ v′ g′ : ℕ} (mesh : Sphere lab opp t v g)

@@ -73,7 +73,7 @@ module _ {lab opp : ℕ → ℕ} {t v g : ℕ} (mesh : Sphere lab opp t v g) whe
           let n : size w ≡ t = sym (follows-length opp w g q k) ∙ steps-length mesh in
           let li = linked opp (letterOf q) (cornerOf q) w g 0 q k (ahead-all q) in
           let d : Worded mesh (letterOf (steps mesh)) (cornerOf (steps mesh)) =
-              record { run = r; word = w; sized = n; spells = li .1; links-face = li .2 } in
+          record { run = r; word = w; sized = n; spells = li .1; links-face = li .2 } in
           record {
             long = steps-length mesh;
             once = time-inj r;

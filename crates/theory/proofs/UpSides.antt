@@ -138,7 +138,7 @@ count-map f twice z (y ∷ q) = go (ℕ-discrete z (f y)) (count-map f twice z q
 -- E5
 module _ (sp : ℕ → Letter) (m : ℕ) (other : ℕ → ℕ) (twice : (x : ℕ) → other (other x) ≡ x)
     (rises : (x : ℕ) → 1 ≤ count x (0 ∷ ups sp 0 (suc m))
-        → (triangle x < triangle (other x)) × (1 ≤ count (other x) (tris 0 (suc m)))) where
+    → (triangle x < triangle (other x)) × (1 ≤ count (other x) (tris 0 (suc m)))) where
   -- the up sides with corner 0, the down sides without it
   abbrev risen : List ℕ
   risen = 0 ∷ ups sp 0 (suc m)

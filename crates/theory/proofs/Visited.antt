@@ -1,8 +1,8 @@
 -- E4: a run visits every triangle of the mesh (`visited`), so it has at least t steps (`full`).
 --
 -- The left side of a C is visited in the end (`new-left`): swinging from its tip goes round over visited triangles
--- only, by recursion from the last C back. Likewise the gate's own neighbour (`gate-seen`), by swinging round an end of its
--- edge. So the visited triangles are closed under neighbours (`closed`), and the mesh is one piece.
+-- only, by recursion from the last C back. Likewise the gate's own neighbour (`gate-seen`), by swinging round an end of
+-- its edge. So the visited triangles are closed under neighbours (`closed`), and the mesh is one piece.
 use mathlib.Core.Logic.{_≢_, _⊎_, inl, inr}
 use mathlib.Core.Path.{_∙_, _≡_, ap, refl, subst, sym}
 use Prim.Native.Nat.{_*_, _+_, _<_, _≤_, suc, zero, ℕ}
@@ -104,7 +104,7 @@ module _ {lab opp : ℕ → ℕ} {t v g : ℕ} (mesh : Sphere lab opp t v g)
           go (no z) (no d) =
               let e : j ≡ k = omega arith in
               let same : c ≡ co k =
-                  one-corner mesh c (co k) (facts k h .low) (u ∙ ap (λ (y : ℕ). triangle (co y)) e) l in
+              one-corner mesh c (co k) (facts k h .low) (u ∙ ap (λ (y : ℕ). triangle (co y)) e) l in
               rw same (right-seen k h)
 
   -- by recursion on m - k
@@ -130,7 +130,7 @@ module _ {lab opp : ℕ → ℕ} {t v g : ℕ} (mesh : Sphere lab opp t v g)
               let e : j ≡ 0 = omega arith in
               let there = u ∙ ap (λ (y : ℕ). triangle (co y)) e ∙ sym (triangle-next (co 0)) in
               let same : c ≡ next (co 0) =
-                  one-corner mesh c (next (co 0)) (next-low t (co 0) (facts 0 h .low)) there l in
+              one-corner mesh c (next (co 0)) (next-low t (co 0) (facts 0 h .low)) there l in
               rw (same, next-next (co 0)) (left-seen 0 h)
 
   gate-seen : 0 < m → Seen (opp (co 0))

@@ -104,8 +104,8 @@ module _ {lab opp : ℕ → ℕ} {t v g : ℕ} (mesh : Sphere lab opp t v g) whe
     module _ (a : Letter) (tip : In (lab x) ((a ＠ x) ∷ pre)) where
       right-ends : Ends ((a ＠ x) ∷ pre) (right opp x)
       right-ends =
-          let q : lab (previous (right opp x)) ≡ lab (previous x) = sym (mesh .glued (next x)) ∙ ap lab (next-next x) in
-          (
+          let d = right opp x in
+          let q : lab (previous d) ≡ lab (previous x) = sym (mesh .glued (next x)) ∙ ap lab (next-next x) in (
             rw right-tip tip,
             rw q (mono a x (lab (previous x)) pre (i .ends .1)),
             mesh .inside (next x) (next-low t x (i .ends .2)),
@@ -115,8 +115,7 @@ module _ {lab opp : ℕ → ℕ} {t v g : ℕ} (mesh : Sphere lab opp t v g) whe
       left-ends =
           let p : lab (previous (left opp x)) ≡ lab x = sym (mesh .glued (previous x)) ∙ ap lab (next-previous x) in
           let q : lab (next (left opp x)) ≡ lab (next x) =
-              sym (glued-left mesh (previous x)) ∙ ap lab (previous-previous x) in
-          (
+          sym (glued-left mesh (previous x)) ∙ ap lab (previous-previous x) in (
             rw q (mono a x (lab (next x)) pre (i .ends .0)),
             rw p tip,
             mesh .inside (previous x) (previous-low t x (i .ends .2)),

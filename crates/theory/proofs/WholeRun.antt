@@ -60,8 +60,8 @@ ahead-from sp co ((a ＠ d) ∷ q) k h i = (
   rw (add-zero k) at (h 0),
   rw (add-zero k) at (i 0),
   ahead-from sp co q (suc k)
-  (λ j. let e : suc k + j ≡ k + suc j = omega arith in rw e (h (suc j)))
-  (λ j. let e : suc k + j ≡ k + suc j = omega arith in rw e (i (suc j))),
+      (λ j. let e : suc k + j ≡ k + suc j = omega arith in rw e (h (suc j)))
+      (λ j. let e : suc k + j ≡ k + suc j = omega arith in rw e (i (suc j))),
 )
 
 pub ahead-all : (q : List Step) → Ahead (letterOf q) (cornerOf q) 0 q
