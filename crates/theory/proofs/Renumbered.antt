@@ -23,16 +23,22 @@ use Rattle.theory.specs.Word.{Word, news, size}
 
 module _ {lab opp lab′ opp′ : ℕ → ℕ} {t v g t′ v′ g′ : ℕ} {steps steps′ : List Step}
     (r : Round lab opp t v g steps) (r′ : Round lab′ opp′ t′ v′ g′ steps′) where
+  -- from the corners read back to those of the two meshes
+  abbrev f : ℕ → ℕ
+  f = byWalk (cornersOf steps)
+
+  abbrev f′ : ℕ → ℕ
+  f′ = byWalk (cornersOf steps′)
+
   unfoldable pub cornerMap : ℕ → ℕ
   cornerMap c = byWalk (cornersOf steps′) (r .back c)
 
   unfoldable pub vertexMap : ℕ → ℕ
   vertexMap u = r′ .name (r .unname u)
 
-  -- the two walk tables show the map
   pub corner-at : (x : ℕ) → cornerMap (byWalk (cornersOf steps) x) ≡ byWalk (cornersOf steps′) x
   unfolding cornerMap
-  corner-at x = ap (byWalk (cornersOf steps′)) (r .here x)
+  corner-at x = ap f′ (r .here x)
 
   corner-gate : cornerMap g ≡ g′
   corner-gate = ap cornerMap (sym (r .gate)) ∙ corner-at 0 ∙ r′ .gate
@@ -41,21 +47,21 @@ module _ {lab opp lab′ opp′ : ℕ → ℕ} {t v g t′ v′ g′ : ℕ} {ste
   unfolding cornerMap
   corner-next c =
       let x = r .back c in
-      let a : next c ≡ byWalk (cornersOf steps) (next x) =
-      ap next (sym (r .there c)) ∙ sym (by-walk-next (cornersOf steps) x) in
+      let a = ap next (sym (r .there c)) ∙ sym (by-walk-next (cornersOf steps) x) in
       ap cornerMap a ∙ corner-at (next x) ∙ by-walk-next (cornersOf steps′) x
 
   corner-inj : (c d : ℕ) → cornerMap c ≡ cornerMap d → c ≡ d
   unfolding cornerMap
   corner-inj c d e =
       let a : r .back c ≡ r .back d = sym (r′ .here (r .back c)) ∙ ap (r′ .back) e ∙ r′ .here (r .back d) in
-      sym (r .there c) ∙ ap (byWalk (cornersOf steps)) a ∙ r .there d
+      sym (r .there c) ∙ ap f a ∙ r .there d
 
   module _ (same : lettersOf steps ≡ lettersOf steps′) where
     -- one string is one word, so as many triangles and vertices
-    pub same-word : r .word ≡ r′ .word
+    same-word : r .word ≡ r′ .word
     same-word =
-        spell-injective (r .word) (r′ .word) [] [] (ap (λ (s : List ℕ). s ++ []) (r .spelt ∙ same ∙ sym (r′ .spelt)))
+        let e = r .spelt ∙ same ∙ sym (r′ .spelt) in
+        spell-injective (r .word) (r′ .word) [] [] (ap (λ (s : List ℕ). s ++ []) e)
 
     pub same-t : t ≡ t′
     same-t = sym (r .sized) ∙ ap size same-word ∙ r′ .sized
@@ -63,16 +69,29 @@ module _ {lab opp lab′ opp′ : ℕ → ℕ} {t v g t′ v′ g′ : ℕ} {ste
     pub same-v : v ≡ v′
     same-v = sym (r .counted) ∙ ap (λ (w : Word). 2 + news w) same-word ∙ r′ .counted
 
+    -- the tables read back are the same
+    read-opposite : (x : ℕ) → opposite (tableO (r .word)) x ≡ opposite (tableO (r′ .word)) x
+    read-opposite x = ap (λ (w : Word). opposite (tableO w) x) same-word
+
+    read-vertex : (x : ℕ) → vertex (tableV (r .word)) x ≡ vertex (tableV (r′ .word)) x
+    read-vertex x = ap (λ (w : Word). vertex (tableV w) x) same-word
+
+    corner-low : (c : ℕ) → c < 3 * t → cornerMap c < 3 * t
+    unfolding cornerMap
+    corner-low c b =
+        let e = same-t in
+        let l = r .back-low c b in
+        let z = r′ .low (r .back c) (omega arith) in
+        omega arith
+
     corner-neighbour : (c : ℕ) → c < 3 * t → cornerMap (opp c) ≡ opp′ (cornerMap c)
     unfolding cornerMap
     corner-neighbour c b =
         let x = r .back c in
         let l = r .back-low c b in
         let e = same-t in
-        let y = opposite (tableO (r .word)) x in
-        let a : opp c ≡ byWalk (cornersOf steps) (opposite (tableO (r .word)) (r .back c)) =
-        ap opp (sym (r .there c)) ∙ r .neighbours x l in
-        ap cornerMap a ∙ corner-at y ∙ ap (λ (w : Word). byWalk (cornersOf steps′) (opposite (tableO w) x)) same-word
+        let a = ap opp (sym (r .there c)) ∙ r .neighbours x l in
+        ap cornerMap a ∙ corner-at (opposite (tableO (r .word)) x) ∙ ap f′ (read-opposite x)
         ∙ sym (r′ .neighbours x (omega arith))
 
     corner-vertex : (c : ℕ) → c < 3 * t → lab′ (cornerMap c) ≡ vertexMap (lab c)
@@ -81,37 +100,40 @@ module _ {lab opp lab′ opp′ : ℕ → ℕ} {t v g t′ v′ g′ : ℕ} {ste
         let x = r .back c in
         let l = r .back-low c b in
         let e = same-t in
-        let a : lab c ≡ r .name (vertex (tableV (r .word)) (r .back c)) = ap lab (sym (r .there c)) ∙ r .vertices x l in
-        let d : r .unname (lab c) ≡ vertex (tableV (r .word)) (r .back c) =
-        ap (r .unname) a ∙ r .unname-name (vertex (tableV (r .word)) x) (r .read-low x l) in
-        r′ .vertices x (omega arith) ∙ ap (r′ .name) (ap (λ (w : Word). vertex (tableV w) x) (sym same-word) ∙ sym d)
+        let a = ap lab (sym (r .there c)) ∙ r .vertices x l in
+        let d = ap (r .unname) a ∙ r .unname-name (vertex (tableV (r .word)) x) (r .read-low x l) in
+        r′ .vertices x (omega arith) ∙ ap (r′ .name) (sym (read-vertex x) ∙ sym d)
+
+    vertex-low : (u : ℕ) → u < v → vertexMap u < v
+    unfolding vertexMap
+    vertex-low u b =
+        let e = same-v in
+        let l = r .unname-low u b in
+        let z = r′ .name-low (r .unname u) (omega arith) in
+        omega arith
+
+    vertex-inj : (u w : ℕ) → u < v → w < v → vertexMap u ≡ vertexMap w → u ≡ w
+    unfolding vertexMap
+    vertex-inj u w p q e =
+        let s = same-v in
+        let lu = r .unname-low u p in
+        let lw = r .unname-low w q in
+        let un = r′ .unname-name (r .unname u) (omega arith) in
+        let wn = r′ .unname-name (r .unname w) (omega arith) in
+        sym (r .name-unname u p) ∙ ap (r .name) (sym un ∙ ap (r′ .unname) e ∙ wn) ∙ r .name-unname w q
 
     -- T4, from strings to meshes
     pub renumbered : Renumbering lab opp lab′ opp′ t v g g′ cornerMap vertexMap
-    unfolding cornerMap vertexMap
     renumbered = record {
       gate = corner-gate;
-      low =
-          λ c b. let e = same-t in let l = r .back-low c b in let z = r′ .low (r .back c) (omega arith) in omega arith;
+      low = corner-low;
       inj = λ c d p q e. corner-inj c d e;
       turning = λ c b. corner-next c;
       neighbour = corner-neighbour;
       vertex = corner-vertex;
-      names-low =
-          λ u b. let e =
-          same-v in let l = r .unname-low u b in let z = r′ .name-low (r .unname u) (omega arith) in omega arith;
-      names-inj = names-inj;
+      names-low = vertex-low;
+      names-inj = vertex-inj;
     }
-      where
-        names-inj : (u w : ℕ) → u < v → w < v → r′ .name (r .unname u) ≡ r′ .name (r .unname w) → u ≡ w
-        names-inj u w p q e =
-            let s = same-v in
-            let lu = r .unname-low u p in
-            let lw = r .unname-low w q in
-            let a : r .unname u ≡ r .unname w =
-            sym (r′ .unname-name (r .unname u) (omega arith)) ∙ ap (r′ .unname) e
-            ∙ r′ .unname-name (r .unname w) (omega arith) in
-            sym (r .name-unname u p) ∙ ap (r .name) a ∙ r .name-unname w q
 
 module _ {lab opp lab′ opp′ : ℕ → ℕ} {t v g t′ v′ g′ : ℕ} (mesh : Sphere lab opp t v g)
     (mesh′ : Sphere lab′ opp′ t′ v′ g′) (e : t ≡ t′)

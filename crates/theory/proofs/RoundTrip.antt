@@ -62,8 +62,38 @@ pub record Round (lab opp : ℕ → ℕ) (t v g : ℕ) (steps : List Step) : Typ
   pub vertices : (x : ℕ) → x < 3 * t → lab (byWalk (cornersOf steps) x) ≡ name (vertex (tableV word) x)
 
 module _ {lab opp : ℕ → ℕ} {t v g : ℕ} (mesh : Sphere lab opp t v g) where
-  round-steps : Round lab opp t v g (steps mesh)
+  -- a walk that follows a word
+  round-word : (d : Worded mesh (letterOf (steps mesh)) (cornerOf (steps mesh)))
+      → lettersOf (steps mesh) ≡ spell (d .word) → Round lab opp t v g (steps mesh)
   unfolding byWalk carry turned
+  round-word d e = record {
+    long = steps-length mesh;
+    once = time-inj (d .run);
+    met = d .run .seen-all;
+    word = d .word;
+    spelt = sym e;
+    sound = word-sound d;
+    two = word-two d;
+    sized = d .sized;
+    counted = news-count d;
+    gate = d .run .start;
+    back = uncarry (d .run);
+    low = carry-low (d .run);
+    back-low = uncarry-low (d .run);
+    there = carry-uncarry (d .run);
+    here = uncarry-carry (d .run);
+    name = naming d;
+    unname = unnaming d;
+    name-low = naming-low d;
+    unname-low = unnaming-low d;
+    name-unname = naming-unnaming d;
+    unname-name = unnaming-naming d;
+    read-low = read-back-low d;
+    neighbours = carry-opposite d;
+    vertices = carry-vertex d;
+  }
+
+  round-steps : Round lab opp t v g (steps mesh)
   round-steps = go (word-of mesh)
     where
       go : (w : Word) × Follows opp w g (steps mesh) → Round lab opp t v g (steps mesh)
@@ -72,34 +102,8 @@ module _ {lab opp : ℕ → ℕ} {t v g : ℕ} (mesh : Sphere lab opp t v g) whe
           let r = walked mesh in
           let n : size w ≡ t = sym (follows-length opp w g q k) ∙ steps-length mesh in
           let li = linked opp (letterOf q) (cornerOf q) w g 0 q k (ahead-all q) in
-          let d : Worded mesh (letterOf (steps mesh)) (cornerOf (steps mesh)) =
-          record { run = r; word = w; sized = n; spells = li .1; links-face = li .2 } in
-          record {
-            long = steps-length mesh;
-            once = time-inj r;
-            met = r .seen-all;
-            word = w;
-            spelt = sym (follows-letters opp w g q k);
-            sound = word-sound d;
-            two = word-two d;
-            sized = n;
-            counted = news-count d;
-            gate = r .start;
-            back = uncarry r;
-            low = carry-low r;
-            back-low = uncarry-low r;
-            there = carry-uncarry r;
-            here = uncarry-carry r;
-            name = naming d;
-            unname = unnaming d;
-            name-low = naming-low d;
-            unname-low = unnaming-low d;
-            name-unname = naming-unnaming d;
-            unname-name = unnaming-naming d;
-            read-low = read-back-low d;
-            neighbours = carry-opposite d;
-            vertices = carry-vertex d;
-          }
+          let e = follows-letters opp w g q k in
+          round-word (record { run = r; word = w; sized = n; spells = li .1; links-face = li .2 }) e
 
   -- T3
   pub round : Round lab opp t v g (walkFrom lab opp t g)
