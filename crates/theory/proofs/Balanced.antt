@@ -149,9 +149,8 @@ module _ {lab opp : ℕ → ℕ} {t v g : ℕ} {mesh : Sphere lab opp t v g} {sp
         let d = marks-bound in
         let f = mesh .euler in
         let len : length q ≡ suc m = n ∙ e in
-        let u : length (ups sp 0 (length q)) ≡ length (ups sp 0 (suc m)) = ap (λ (i : ℕ). length (ups sp 0 i)) len in
-        let o : length (downs sp 0 (length q)) ≡ length (downs sp 0 (suc m)) =
-        ap (λ (i : ℕ). length (downs sp 0 i)) len in
+        let u = ap (λ (i : ℕ). length (ups sp 0 i)) len in
+        let o = ap (λ (i : ℕ). length (downs sp 0 i)) len in
         omega arith
 
 module _ {lab opp : ℕ → ℕ} {t v g : ℕ} (mesh : Sphere lab opp t v g) where

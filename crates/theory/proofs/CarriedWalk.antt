@@ -23,6 +23,7 @@ use Rattle.theory.specs.Renumber.{Renumbering, byWalk, turned}
 use Rattle.theory.specs.Walk.{Step, _＠_, cornersOf, letterAt, lettersOf, marks, seen, tips, walk, walkFrom}
 use Rattle.theory.specs.declared.Letter.{Letter}
 use Rattle.theory.specs.declared.Letter.the-variants.{C, E, L, R, S}
+use types.Run.{from}
 
 unfoldable mapSteps : (ℕ → ℕ) → List Step → List Step
 mapSteps h [] = []
@@ -78,9 +79,8 @@ module _ {lab opp lab′ opp′ : ℕ → ℕ} {t v g g′ : ℕ} {h a : ℕ →
   unfolding seen mapSteps
   seen-map [] c l b = refl
   seen-map ((x ＠ d) ∷ pre) c l b =
-      let e =
-      eqb-iff (triangle (h c)) (triangle (h d)) (triangle c) (triangle d) (triangle-from c d b (l .0))
-      (triangle-to c d (l .0)) in
+      let from = triangle-from c d b (l .0) in
+      let e = eqb-iff (triangle (h c)) (triangle (h d)) (triangle c) (triangle d) from (triangle-to c d (l .0)) in
       rw (e, seen-map pre c (l .1) b)
 
   eqb-name : (u w : ℕ) → u < v → w < v → eqb (a u) (a w) ≡ eqb u w
@@ -127,15 +127,18 @@ module _ {lab opp lab′ opp′ : ℕ → ℕ} {t v g g′ : ℕ} {h a : ℕ →
   left-low : (c : ℕ) → c < 3 * t → left opp c < 3 * t
   left-low c b = inside (previous c) (previous-low t c b)
 
+  beside-map : (pre : List Step) (c d : ℕ) → Low pre → c < 3 * t → d < 3 * t
+      → seen ((E ＠ h c) ∷ mapSteps h pre) (h d) ≡ seen ((E ＠ c) ∷ pre) d
+  unfolding mapSteps
+  beside-map pre c d l b q = seen-map ((E ＠ c) ∷ pre) d (b, l) q
+
   letter-map : (pre : List Step) (c : ℕ) → Low pre → c < 3 * t
       → letterAt lab′ opp′ g′ (mapSteps h pre) (h c) ≡ letterAt lab opp g pre c
-  unfolding letterAt mapSteps
+  unfolding letterAt
   letter-map pre c l b =
-      let p : seen ((E ＠ h c) ∷ mapSteps h pre) (left opp′ (h c)) ≡ seen ((E ＠ c) ∷ pre) (left opp c) =
-      rw (left-map c b) (seen-map ((E ＠ c) ∷ pre) (left opp c) (b, l) (left-low c b)) in
-      let q : seen ((E ＠ h c) ∷ mapSteps h pre) (right opp′ (h c)) ≡ seen ((E ＠ c) ∷ pre) (right opp c) =
-      rw (right-map c b) (seen-map ((E ＠ c) ∷ pre) (right opp c) (b, l) (right-low c b)) in
-      rw (marks-map pre c l b, p, q)
+      let p = beside-map pre c (left opp c) l b (left-low c b) in
+      let q = beside-map pre c (right opp c) l b (right-low c b) in
+      rw (marks-map pre c l b, left-map c b, p, right-map c b, q)
 
   -- carried, as far as n steps go
   abbrev Carried : ℕ → Type 0

@@ -88,6 +88,9 @@ module _ {lab opp : ℕ → ℕ} {t v g : ℕ} (mesh : Sphere lab opp t v g) (sp
     at : co (length pre) ≡ x
     at = p .ahead .1
 
+    holds : Holds sp co ((a ＠ x) ∷ pre)
+    holds = (p .ahead .0, at, p .behind)
+
     low-here : x < 3 * t
     low-here = p .state .ends .2
 
@@ -111,7 +114,7 @@ module _ {lab opp : ℕ → ℕ} {t v g : ℕ} (mesh : Sphere lab opp t v g) (sp
     after s b w = let n = p .total in
         record {
           state = s;
-          behind = (p .ahead .0, at, p .behind);
+          behind = holds;
           ahead = p .ahead .2;
           total = omega arith;
           backed = λ z. b;
@@ -149,8 +152,7 @@ module _ {lab opp : ℕ → ℕ} {t v g : ℕ} (mesh : Sphere lab opp t v g) (sp
     later : (y : ℕ) → seen ((E ＠ x) ∷ pre) y ≡ false → Earlier co (suc (length pre)) y → ⊥
     unfolding seen
     later y f w =
-        let b : seen ((a ＠ x) ∷ pre) y ≡ true =
-        before-seen lab g sp co ((a ＠ x) ∷ pre) (p .ahead .0, at, p .behind) y w in
+        let b = before-seen lab g sp co ((a ＠ x) ∷ pre) holds y w in
         not-both (seen ((a ＠ x) ∷ pre) y) b f
 
   -- dropped lefts are visited
@@ -212,22 +214,18 @@ module _ {lab opp : ℕ → ℕ} {t v g : ℕ} (mesh : Sphere lab opp t v g) (sp
       let w = says mesh pre x S h in
       let d = headed z (suc (length pre)) (p .ahead .2) in
       let n = p .total in
-      let lefts : EachN (Backed (suc (length pre))) (left opp x ∷ st) =
-      (beside p (previous x) (triangle-previous x), still p) in
-      let r = index z (after p (kept-S mesh (p .state) w) (beside p (next x) (triangle-next x)) lefts) in
+      let side = beside p (previous x) (triangle-previous x) in
+      let r = index z (after p (kept-S mesh (p .state) w) (beside p (next x) (triangle-next x)) (side, still p)) in
       (more p (side-S (omega arith) p w (d .0) (r .1 .0)) (r .0), r .1 .1)
-  index {m = m} (resume {pre = pre} {x = x} h dr un z) p =
+  index {m = m} (resume {pre = pre} {x = x} {d = y} h dr un z) p =
       let w = says mesh pre x E h in
       let d = headed z (suc (length pre)) (p .ahead .2) in
       let n = p .total in
       let backs = dropped-each mesh (Backed (suc (length pre))) dr (still p) in
       let r = index z (after p (kept-E mesh (p .state) w dr un) (backs .0) (backs .1)) in
-      let lefts =
-      dropped m dr (p .ahead .0, at p, p .behind) (omega arith)
-      ((suc (length pre), omega arith, ap triangle (sym (d .0))), r .1) in
-      (more p (side-E p w) (r .0), lefts)
+      let popped : Earlier co m y = (suc (length pre), omega arith, ap triangle (sym (d .0))) in
+      (more p (side-E p w) (r .0), dropped m dr (holds p) (omega arith) (popped, r .1))
   index {m = m} (end {pre = pre} {x = x} h dr) p =
-      let n = p .total in (
-        more p (side-E p (says mesh pre x E h)) (λ k b f. absurd (omega arith)),
-        dropped m dr (p .ahead .0, at p, p .behind) (omega arith) tt,
-      )
+      let n = p .total in
+      let s = side-E p (says mesh pre x E h) in
+      (more p s (λ k b f. absurd (omega arith)), dropped m dr (holds p) (omega arith) tt)

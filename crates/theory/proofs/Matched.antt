@@ -34,8 +34,7 @@ use Rattle.theory.specs.declared.Letter.{Letter}
 use Rattle.theory.specs.declared.Letter.the-variants.{C, E, L, R, S}
 
 module _ {lab opp : ℕ → ℕ} {t v g : ℕ} {mesh : Sphere lab opp t v g} {sp : ℕ → Letter} {co : ℕ → ℕ}
-    (run : Walked mesh sp co)
-    (lefts : SplitLeft opp sp co 0 t) where
+    (run : Walked mesh sp co) (lefts : SplitLeft opp sp co 0 t) where
   -- the vertex at a corner in the walk's numbers
   abbrev at : ℕ → ℕ
   at x = lab (carry co x)
@@ -66,6 +65,10 @@ module _ {lab opp : ℕ → ℕ} {t v g : ℕ} {mesh : Sphere lab opp t v g} {sp
       go : Dec (j < k + n) → Held (k + (n + m)) j
       go (yes l) = let u = f j a l q in (u .0, u .1, omega arith)
       go (no l) = let u = i j (omega arith) (omega arith) q in (u .0, u .1, omega arith)
+
+  -- a corner of the word's triangles, not the first
+  abbrev Own : ℕ → Word → ℕ → Type 0
+  Own k w x = (3 * k < x) × (x < 3 * (k + size w))
 
   pub record Matched (k : ℕ) (w : Word) : Type 0 where
     pub sound : Sound w
@@ -108,12 +111,10 @@ module _ {lab opp : ℕ → ℕ} {t v g : ℕ} {mesh : Sphere lab opp t v g} {sp
 
   -- with no further open side the two ends of the C's edge were one vertex
   wide : (k b : ℕ) (bs : List ℕ) → sp k ≡ C → Path at (3 * (k + 1) + 2) bs (next b) → Meet b (3 * k + 2)
-      → Meet (3 * k + 1) (3 * (k + 1))
-      → 1 ≤ length bs
+      → Meet (3 * k + 1) (3 * (k + 1)) → 1 ≤ length bs
   wide k b [] c h jn g0 =
       let a : at (3 * k + 1) ≡ at (next b) = rw previous-right at (faces-ends mesh co b (3 * k + 2) jn .1) in
-      let d : at (3 * (k + 1) + 2) ≡ at (3 * k + 2) =
-      rw (previous-tip, next-left) at (faces-ends mesh co (3 * k + 1) (3 * (k + 1)) g0 .1) in
+      let d = rw (previous-tip, next-left) at (faces-ends mesh co (3 * k + 1) (3 * (k + 1)) g0 .1) in
       absurd (apart-at run k c (a ∙ h ∙ d))
   wide k b (x ∷ xs) c h jn g0 = omega arith
 
@@ -134,33 +135,27 @@ module _ {lab opp : ℕ → ℕ} {t v g : ℕ} {mesh : Sphere lab opp t v g} {sp
         → (3 ≤ width w) × Meet b (3 * k + 2) × (b < 3 * (k + 1 + size w)) × EachN (Out k) bs
     close-at bs b e =
         let across = each-map Meet (SameEnds at) (faces-ends mesh co) in
-        let path =
-        open-path at (k + 1) w (i .sound) (across (links (k + 1) w) face)
-        (across (mates (k + 1) w) (i .mates-face)) in
+        let mates-same = across (mates (k + 1) w) (i .mates-face) in
+        let path = open-path at (k + 1) w (i .sound) (across (links (k + 1) w) face) mates-same in
         let last = path-last at (3 * (k + 1) + 2) bs b (3 * (k + 1) + 1) (rw e at path) in
         let o = eachN-last (Out (k + 1)) bs b (rw e at (i .opens-out)) in
-        let tip : at (3 * k) ≡ at (3 * (k + 1) + 1) =
-        rw (previous-left, next-tip) at (faces-end mesh co (3 * k + 1) (3 * (k + 1)) begins) in
+        let tip = rw (previous-left, next-tip) at (faces-end mesh co (3 * k + 1) (3 * (k + 1)) begins) in
         let y = found k (o .0) c (o .2) (o .3) (tip ∙ last .1 ∙ faces-end mesh co b (o .0) (o .1)) in
         let jn : Meet b (3 * k + 2) = o .1 ∙ ap (carry co) y in
         let big = wide k b bs c (last .0) jn begins in
         let n = length-opens (k + 1) w (i .sound) in
         let m = ap length e ∙ length-append bs (b ∷ []) in
-        let lo =
-        eachN-last
-        (λ x. (3 * (k + 1) < x) × (x < 3 * (k + 1 + size w))) bs b (rw e at (opens-low (k + 1) w (i .sound))) in
-        let rest = eachN-left (Out (k + 1)) bs (b ∷ []) (rw e at (i .opens-out)) in (
-          omega arith,
-          jn,
-          lo .1,
-          eachN-both (Out (k + 1)) (λ x. x ≢ b) (Out k)
-              (λ x p ne. below x b jn p ne) bs rest (lone (k + 1) w bs b e (i .sound)),
-        )
+        let own = eachN-last (Own (k + 1) w) bs b (rw e at (opens-low (k + 1) w (i .sound))) in
+        let others = eachN-left (Out (k + 1)) bs (b ∷ []) (rw e at (i .opens-out)) in
+        let once = lone (k + 1) w bs b e (i .sound) in
+        let out = eachN-both (Out (k + 1)) (λ x. x ≢ b) (Out k) (λ x p ne. below x b jn p ne) bs others once in
+        (omega arith, jn, own .1, out)
       where
         below : (x b : ℕ) → Meet b (3 * k + 2) → Out (k + 1) x → x ≢ b → Out k x
-        below x b jn p ne =
-            lower k (k + 1) x p
-            (λ j a d q f. let m : j ≡ k = omega arith in ne (meet-inj x b (3 * k + 2) (rw m at f) jn))
+        below x b jn p ne = lower k (k + 1) x p bad
+          where
+            bad : (j : ℕ) → k ≤ j → j < k + 1 → sp j ≡ C → Meet x (3 * j + 2) → ⊥
+            bad j a d q f = let m : j ≡ k = omega arith in ne (meet-inj x b (3 * k + 2) (rw m at f) jn)
 
     close : Matched k (wC w)
     unfolding mates opens size
@@ -195,6 +190,13 @@ module _ {lab opp : ℕ → ℕ} {t v g : ℕ} {mesh : Sphere lab opp t v g} {sp
           let z = i j (omega arith) q c in
           let same = meet-inj x (z .0) (3 * j + 2) f (faces-turn mesh co (3 * j + 2) (z .0) (z .1)) in
           omega arith
+
+  over-all : (k : ℕ) (a b : Word) → (sp k ≡ C → ⊥) → Inner (k + 1) (size a) → Matched (k + 1 + size a) b
+      → EachN (Out k) (opens (k + 1 + size a) b)
+  over-all k a b no-c i d =
+      let n = k + 1 + size a in
+      eachN-both (Out n) (Own n b) (Out k) (λ x o u. over k a x no-c i o (u .0)) (opens n b) (d .opens-out)
+      (opens-low n b (d .sound))
 
   -- E10
   pub match : (k : ℕ) (w : Word) → Spells sp k w → Each Meet (links k w) → Matched k w
@@ -232,17 +234,12 @@ module _ {lab opp : ℕ → ℕ} {t v g : ℕ} {mesh : Sphere lab opp t v g} {sp
       let i = match (k + 1) a (s .1) (parts .0) in
       let d = match (k + 1 + size a) b (s .2) (parts .1) in
       let no-c : sp k ≡ C → ⊥ = λ q. letters-differ S C refl (sym (s .0) ∙ q) in
+      let inner = inner-both (k + 1) (size a) (size b) (i .inner) (d .inner) in
       let oa = opens (k + 1) a in
       let ob = opens (k + 1 + size a) b in
-      let behind =
-      eachN-both (Out (k + 1 + size a))
-      (λ x. (3 * (k + 1 + size a) < x) × (x < 3 * (k + 1 + size a + size b))) (Out k)
-      (λ x o u. over k a x no-c (i .inner) o (u .0)) ob (d .opens-out) (opens-low (k + 1 + size a) b (d .sound)) in
       record {
         sound = (i .sound, d .sound);
         mates-face = each-append Meet (mates (k + 1) a) (mates (k + 1 + size a) b) (i .mates-face) (d .mates-face);
-        inner =
-            inner-first k (size a + size b)
-            (λ q. absurd (no-c q)) (inner-both (k + 1) (size a) (size b) (i .inner) (d .inner));
-        opens-out = eachN-append (Out k) oa ob (lower-all k oa no-c (i .opens-out)) behind;
+        inner = inner-first k (size a + size b) (λ q. absurd (no-c q)) inner;
+        opens-out = eachN-append (Out k) oa ob (lower-all k oa no-c (i .opens-out)) (over-all k a b no-c (i .inner) d);
       }

@@ -37,8 +37,7 @@ module _ {lab opp : ℕ → ℕ} {t v g : ℕ} (mesh : Sphere lab opp t v g) whe
 
   pub swing-inj : (c d : ℕ) → swing opp c ≡ swing opp d → c ≡ d
   swing-inj c d q =
-      let a : right opp c ≡ right opp d =
-      sym (previous-next (right opp c)) ∙ ap previous q ∙ previous-next (right opp d) in
+      let a = sym (previous-next (right opp c)) ∙ ap previous q ∙ previous-next (right opp d) in
       let b : next c ≡ next d = sym (mesh .paired (next c)) ∙ ap opp a ∙ mesh .paired (next d) in
       sym (previous-next c) ∙ ap previous b ∙ previous-next d
 

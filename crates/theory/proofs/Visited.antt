@@ -103,8 +103,8 @@ module _ {lab opp : ℕ → ℕ} {t v g : ℕ} (mesh : Sphere lab opp t v g)
           go (no z) (yes d) = around j (next c) (f j d q) (omega arith) q (triangle-next c ∙ u)
           go (no z) (no d) =
               let e : j ≡ k = omega arith in
-              let same : c ≡ co k =
-              one-corner mesh c (co k) (facts k h .low) (u ∙ ap (λ (y : ℕ). triangle (co y)) e) l in
+              let there = u ∙ ap (λ (y : ℕ). triangle (co y)) e in
+              let same = one-corner mesh c (co k) (facts k h .low) there l in
               rw same (right-seen k h)
 
   -- by recursion on m - k
@@ -129,8 +129,7 @@ module _ {lab opp : ℕ → ℕ} {t v g : ℕ} (mesh : Sphere lab opp t v g)
           go (no w) =
               let e : j ≡ 0 = omega arith in
               let there = u ∙ ap (λ (y : ℕ). triangle (co y)) e ∙ sym (triangle-next (co 0)) in
-              let same : c ≡ next (co 0) =
-              one-corner mesh c (next (co 0)) (next-low t (co 0) (facts 0 h .low)) there l in
+              let same = one-corner mesh c (next (co 0)) (next-low t (co 0) (facts 0 h .low)) there l in
               rw (same, next-next (co 0)) (left-seen 0 h)
 
   gate-seen : 0 < m → Seen (opp (co 0))

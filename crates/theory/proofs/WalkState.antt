@@ -16,7 +16,7 @@ use lib.Dec.{eqb}
 use borrow.Author.Tests.{eqb-true}
 use Rattle.theory.proofs.CornerLaws.{next-low, next-next, next-previous, previous-low, previous-next, previous-previous, three, triangle-next}
 use Rattle.theory.proofs.Each.{EachN, eachN-map}
-use Rattle.theory.proofs.Runs.{Drop, skip, stay}
+use Rattle.theory.proofs.Runs.{Drop, end, skip, stay}
 use Rattle.theory.proofs.SphereLaws.{glued-left, other-triangle}
 use Rattle.theory.proofs.TestLaws.{eqb-same, not-both, or-cases, or-right, or-three}
 use Rattle.theory.specs.Corner.{left, next, previous, right, triangle}
@@ -97,29 +97,25 @@ module _ {lab opp : ℕ → ℕ} {t v g : ℕ} (mesh : Sphere lab opp t v g) whe
   dropped-each P (skip q z) h = dropped-each P z (h .1)
 
   module _ {pre : List Step} {st : List ℕ} {x : ℕ} (i : State pre st x) where
-    -- the neighbours have the ends of their edge at x's tip and one of its ends
+    -- both neighbours have x's tip at an end of their edge
     right-tip : lab (next (right opp x)) ≡ lab x
     right-tip = sym (glued-left mesh (next x)) ∙ ap lab (previous-next x)
+
+    left-tip : lab (previous (left opp x)) ≡ lab x
+    left-tip = sym (mesh .glued (previous x)) ∙ ap lab (next-previous x)
 
     module _ (a : Letter) (tip : In (lab x) ((a ＠ x) ∷ pre)) where
       right-ends : Ends ((a ＠ x) ∷ pre) (right opp x)
       right-ends =
-          let d = right opp x in
-          let q : lab (previous d) ≡ lab (previous x) = sym (mesh .glued (next x)) ∙ ap lab (next-next x) in (
-            rw right-tip tip,
-            rw q (mono a x (lab (previous x)) pre (i .ends .1)),
-            mesh .inside (next x) (next-low t x (i .ends .2)),
-          )
+          let end = sym (mesh .glued (next x)) ∙ ap lab (next-next x) in
+          let low = mesh .inside (next x) (next-low t x (i .ends .2)) in
+          (rw right-tip tip, rw end (mono a x (lab (previous x)) pre (i .ends .1)), low)
 
       left-ends : Ends ((a ＠ x) ∷ pre) (left opp x)
       left-ends =
-          let p : lab (previous (left opp x)) ≡ lab x = sym (mesh .glued (previous x)) ∙ ap lab (next-previous x) in
-          let q : lab (next (left opp x)) ≡ lab (next x) =
-          sym (glued-left mesh (previous x)) ∙ ap lab (previous-previous x) in (
-            rw q (mono a x (lab (next x)) pre (i .ends .0)),
-            rw p tip,
-            mesh .inside (previous x) (previous-low t x (i .ends .2)),
-          )
+          let end = sym (glued-left mesh (previous x)) ∙ ap lab (previous-previous x) in
+          let low = mesh .inside (previous x) (previous-low t x (i .ends .2)) in
+          (rw end (mono a x (lab (next x)) pre (i .ends .0)), rw left-tip tip, low)
 
       waits : EachN (Ends ((a ＠ x) ∷ pre)) st
       waits =
