@@ -23,7 +23,6 @@ use Rattle.theory.specs.Renumber.{Renumbering, byWalk, turned}
 use Rattle.theory.specs.Walk.{Step, _＠_, cornersOf, letterAt, lettersOf, marks, seen, tips, walk, walkFrom}
 use Rattle.theory.specs.declared.Letter.{Letter}
 use Rattle.theory.specs.declared.Letter.the-variants.{C, E, L, R, S}
-use types.Run.{from}
 
 unfoldable mapSteps : (ℕ → ℕ) → List Step → List Step
 mapSteps h [] = []
@@ -79,8 +78,8 @@ module _ {lab opp lab′ opp′ : ℕ → ℕ} {t v g g′ : ℕ} {h a : ℕ →
   unfolding seen mapSteps
   seen-map [] c l b = refl
   seen-map ((x ＠ d) ∷ pre) c l b =
-      let from = triangle-from c d b (l .0) in
-      let e = eqb-iff (triangle (h c)) (triangle (h d)) (triangle c) (triangle d) from (triangle-to c d (l .0)) in
+      let inj = triangle-from c d b (l .0) in
+      let e = eqb-iff (triangle (h c)) (triangle (h d)) (triangle c) (triangle d) inj (triangle-to c d (l .0)) in
       rw (e, seen-map pre c (l .1) b)
 
   eqb-name : (u w : ℕ) → u < v → w < v → eqb (a u) (a w) ≡ eqb u w
@@ -111,9 +110,9 @@ module _ {lab opp lab′ opp′ : ℕ → ℕ} {t v g g′ : ℕ} {h a : ℕ →
       → mem (lab′ (h c)) (marks lab′ g′ (mapSteps h pre)) ≡ mem (lab c) (marks lab g pre)
   unfolding mem marks
   marks-map pre c l b =
-      let left = eqb-name (lab c) (lab (next g)) (below c b) (below (next g) (next-low t g low)) in
-      let right = eqb-name (lab c) (lab (previous g)) (below c b) (below (previous g) (previous-low t g low)) in
-      rw (iso .vertex c b, left-end, right-end, left, right, tips-map pre (lab c) l (below c b))
+      let p = eqb-name (lab c) (lab (next g)) (below c b) (below (next g) (next-low t g low)) in
+      let q = eqb-name (lab c) (lab (previous g)) (below c b) (below (previous g) (previous-low t g low)) in
+      rw (iso .vertex c b, left-end, right-end, p, q, tips-map pre (lab c) l (below c b))
 
   right-map : (c : ℕ) → c < 3 * t → right opp′ (h c) ≡ h (right opp c)
   right-map c b = ap opp′ (sym (iso .turning c b)) ∙ sym (iso .neighbour (next c) (next-low t c b))

@@ -8,7 +8,6 @@ use native.Mathlib.Omega.{arith}
 use Rattle.theory.proofs.CornerLaws.{next-left, next-right, next-tip, previous-left, previous-right, previous-tip}
 use Rattle.theory.proofs.ListLaws.{snoc-view}
 use Rattle.theory.proofs.Opens.{length-opens, mates, opens}
-use Rattle.theory.proofs.Swings.{To}
 use Rattle.theory.specs.Corner.{next, previous}
 use Rattle.theory.specs.Lists.{back, front}
 use Rattle.theory.specs.Tables.{Pair, _⇌_, links}

@@ -24,13 +24,12 @@ use Rattle.theory.proofs.WholeRun.{Walked}
 use Rattle.theory.proofs.WordSteps.{letters-append}
 use Rattle.theory.specs.Corner.{left, next, previous, right}
 use Rattle.theory.specs.Letter.{byte}
-use Rattle.theory.specs.Mesh.{Sphere, over}
+use Rattle.theory.specs.Mesh.{Sphere}
 use Rattle.theory.specs.Tables.{links}
 use Rattle.theory.specs.Walk.{Step, _＠_, lettersOf}
 use Rattle.theory.specs.Word.{Word, size, spell, wC, wE, wL, wR, wS}
 use Rattle.theory.specs.declared.Letter.{Letter}
 use Rattle.theory.specs.declared.Letter.the-variants.{C, E, L, R, S}
-use types.Part.{sub}
 
 module _ (opp : ℕ → ℕ) where
   pub follows-letters : (w : Word) (x : ℕ) (q : List Step) → Follows opp w x q → lettersOf q ≡ spell w
@@ -108,10 +107,10 @@ module _ (opp : ℕ → ℕ) (sp : ℕ → Letter) (co : ℕ → ℕ) where
       let z = rw h at a in
       let len = follows-length opp x (right opp d) q₁ m in
       let past : suc k + length q₁ ≡ k + 1 + size x = omega arith in
-      let sub = linked x (right opp d) (suc k) q₁ m (ahead-left (suc k) q₁ q₂ (z .2)) in
-      let over = linked y (left opp d) (suc k + length q₁) q₂ n (ahead-right (suc k) q₁ q₂ (z .2)) in
-      let i = subst (Linked x (right opp d)) (sym (add-one k)) sub in
-      let j = subst (Linked y (left opp d)) past over in
+      let one = linked x (right opp d) (suc k) q₁ m (ahead-left (suc k) q₁ q₂ (z .2)) in
+      let two = linked y (left opp d) (suc k + length q₁) q₂ n (ahead-right (suc k) q₁ q₂ (z .2)) in
+      let i = subst (Linked x (right opp d)) (sym (add-one k)) one in
+      let j = subst (Linked y (left opp d)) past two in
       let both = each-append (Faces opp co) (links (k + 1) x) (links (k + 1 + size x) y) (i .2) (j .2) in
       let side = join-left k (k + 1 + size x) d (z .1) (j .0) in
       (z .1, (z .0, i .1, j .1), (join-right k (k + 1) d (z .1) (i .0), (side, both)))

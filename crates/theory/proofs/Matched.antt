@@ -27,7 +27,7 @@ use Rattle.theory.proofs.WholeRun.{Walked}
 use Rattle.theory.proofs.WordLaws.{width-two}
 use Rattle.theory.specs.Corner.{next}
 use Rattle.theory.specs.Lists.{back, front}
-use Rattle.theory.specs.Mesh.{Sphere, facing}
+use Rattle.theory.specs.Mesh.{Sphere}
 use Rattle.theory.specs.Tables.{links}
 use Rattle.theory.specs.Word.{Sound, Word, size, wC, wE, wL, wR, wS, width}
 use Rattle.theory.specs.declared.Letter.{Letter}
@@ -171,11 +171,11 @@ module _ {lab opp : ℕ → ℕ} {t v g : ℕ} {mesh : Sphere lab opp t v g} {sp
             × EachN (Out k) (front (opens (k + 1) w)) → Matched k (wC w)
         go z =
             let b = back (opens (k + 1) w) in
-            let facing = faces-turn mesh co b (3 * k + 2) (z .1) in
+            let turn = faces-turn mesh co b (3 * k + 2) (z .1) in
             record {
               sound = (i .sound, z .0);
               mates-face = (z .1, i .mates-face);
-              inner = inner-first k (size w) (λ q. (b, facing, omega arith)) (i .inner);
+              inner = inner-first k (size w) (λ q. (b, turn, omega arith)) (i .inner);
               opens-out = z .3;
             }
 

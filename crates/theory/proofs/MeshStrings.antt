@@ -17,7 +17,6 @@ use native.Mathlib.Omega.{arith}
 use lib.Dec.{eqb}
 use lib.ListN.{length}
 use borrow.Author.Tests.{eqb-true}
-use Rattle.theory.proofs.ListLaws.{third}
 use Rattle.theory.proofs.Renumbered.{corner-at, cornerMap, equal-strings, only-corners, only-vertices, renumbered, same-t, same-v, vertexMap}
 use Rattle.theory.proofs.RoundTrip.{Round, round, round-closes}
 use Rattle.theory.proofs.TestLaws.{and-left, and-right}
@@ -32,9 +31,9 @@ use Rattle.theory.specs.Word.{Closes}
 shape-length : (vs os : List ℕ) → shapeOk vs os ≡ true → length vs ≡ 3 * (length vs / 3)
 unfolding shapeOk
 shape-length vs os h =
-    let third = countOk (length vs / 3) in
-    let rest = and-right (eqb (length vs) (length os)) (eqb (length vs % 3) 0 && third) h in
-    let e = eqb-true (length vs % 3) 0 (and-left (eqb (length vs % 3) 0) third rest) in
+    let fits = countOk (length vs / 3) in
+    let rest = and-right (eqb (length vs) (length os)) (eqb (length vs % 3) 0 && fits) h in
+    let e = eqb-true (length vs % 3) 0 (and-left (eqb (length vs % 3) 0) fits rest) in
     omega arith
 
 module _ {vs os : List ℕ} {v g : ℕ} (m : Accepted vs os v g) where

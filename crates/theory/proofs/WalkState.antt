@@ -16,7 +16,7 @@ use lib.Dec.{eqb}
 use borrow.Author.Tests.{eqb-true}
 use Rattle.theory.proofs.CornerLaws.{next-low, next-next, next-previous, previous-low, previous-next, previous-previous, three, triangle-next}
 use Rattle.theory.proofs.Each.{EachN, eachN-map}
-use Rattle.theory.proofs.Runs.{Drop, end, skip, stay}
+use Rattle.theory.proofs.Runs.{Drop, skip, stay}
 use Rattle.theory.proofs.SphereLaws.{glued-left, other-triangle}
 use Rattle.theory.proofs.TestLaws.{eqb-same, not-both, or-cases, or-right, or-three}
 use Rattle.theory.specs.Corner.{left, next, previous, right, triangle}
@@ -107,15 +107,15 @@ module _ {lab opp : ℕ → ℕ} {t v g : ℕ} (mesh : Sphere lab opp t v g) whe
     module _ (a : Letter) (tip : In (lab x) ((a ＠ x) ∷ pre)) where
       right-ends : Ends ((a ＠ x) ∷ pre) (right opp x)
       right-ends =
-          let end = sym (mesh .glued (next x)) ∙ ap lab (next-next x) in
+          let edge = sym (mesh .glued (next x)) ∙ ap lab (next-next x) in
           let low = mesh .inside (next x) (next-low t x (i .ends .2)) in
-          (rw right-tip tip, rw end (mono a x (lab (previous x)) pre (i .ends .1)), low)
+          (rw right-tip tip, rw edge (mono a x (lab (previous x)) pre (i .ends .1)), low)
 
       left-ends : Ends ((a ＠ x) ∷ pre) (left opp x)
       left-ends =
-          let end = sym (glued-left mesh (previous x)) ∙ ap lab (previous-previous x) in
+          let edge = sym (glued-left mesh (previous x)) ∙ ap lab (previous-previous x) in
           let low = mesh .inside (previous x) (previous-low t x (i .ends .2)) in
-          (rw end (mono a x (lab (next x)) pre (i .ends .0)), rw left-tip tip, low)
+          (rw edge (mono a x (lab (next x)) pre (i .ends .0)), rw left-tip tip, low)
 
       waits : EachN (Ends ((a ＠ x) ∷ pre)) st
       waits =
