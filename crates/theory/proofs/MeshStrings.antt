@@ -4,6 +4,7 @@
 --
 --   mesh-round           T3: the walk of an accepted mesh has t steps, and reading its string back gives the mesh
 --   mesh-closes          its string closes
+--   mesh-renumbers       the tables read back from it are the mesh but for its numbers, by the walk table
 --   letters-length corners-length    its string and its walk table have t entries
 --   strings-sizes strings-renumber   T4: equal strings, so equal sizes and a renumbering ..
 --   renumber-strings                 .. and back
@@ -11,22 +12,24 @@
 --   corners-by-walk                  .. which the two walk tables show
 use mathlib.Core.Bool.{_&&_, true}
 use mathlib.Core.List.{List}
-use mathlib.Core.Path.{_∙_, _≡_}
+use mathlib.Core.Path.{_∙_, _≡_, ap, sym}
 use Prim.Native.Nat.{_%_, _*_, _/_, _<_, ℕ}
 use native.Mathlib.Omega.{arith}
 use lib.Dec.{eqb}
 use lib.ListN.{length}
 use borrow.Author.Tests.{eqb-true}
 use Rattle.theory.proofs.Renumbered.{corner-at, cornerMap, equal-strings, only-corners, only-vertices, renumbered, same-t, same-v, vertexMap}
-use Rattle.theory.proofs.RoundTrip.{Round, round, round-closes}
+use Rattle.theory.proofs.RoundTrip.{Round, round, round-closes, round-renumbers}
 use Rattle.theory.proofs.TestLaws.{and-left, and-right}
 use Rattle.theory.proofs.WholeRun.{length-corners, length-letters}
+use Rattle.theory.proofs.WordLaws.{word-of-spell}
 use Rattle.theory.specs.Answer.{countOk}
 use Rattle.theory.specs.Corner.{opposite, vertex}
 use Rattle.theory.specs.Mesh.{Accepted, shapeOk}
 use Rattle.theory.specs.Renumber.{Renumbering, byWalk}
+use Rattle.theory.specs.Tables.{tableO, tableV}
 use Rattle.theory.specs.Walk.{cornersOf, lettersOf, meshWalk}
-use Rattle.theory.specs.Word.{Closes}
+use Rattle.theory.specs.Word.{Closes, wordOf}
 
 shape-length : (vs os : List ℕ) → shapeOk vs os ≡ true → length vs ≡ 3 * (length vs / 3)
 unfolding shapeOk
@@ -43,6 +46,14 @@ module _ {vs os : List ℕ} {v g : ℕ} (m : Accepted vs os v g) where
 
   pub mesh-closes : Closes (lettersOf (meshWalk vs os g))
   mesh-closes = round-closes mesh-round
+
+  -- what is read back from the string
+  pub mesh-renumbers : let w = wordOf (lettersOf (meshWalk vs os g)) in
+      Renumbering (vertex (tableV w)) (opposite (tableO w)) (vertex vs) (opposite os) (length vs / 3) v 0 g
+      (byWalk (cornersOf (meshWalk vs os g))) (mesh-round .name)
+  mesh-renumbers =
+      let e = ap wordOf (sym (mesh-round .spelt)) ∙ word-of-spell (mesh-round .word) in
+      rw e (round-renumbers mesh-round)
 
   pub letters-length : length (lettersOf (meshWalk vs os g)) ≡ length vs / 3
   letters-length = length-letters (meshWalk vs os g) ∙ mesh-round .long

@@ -9,14 +9,15 @@
 --     name unname ..            likewise the vertices
 --     neighbours vertices       byWalk and name carry tables O and V, read back, to those of the mesh
 --   round-closes                so the string closes
+--   round-renumbers             and the tables read back are the mesh but for its numbers
 --
 -- Rule 13's ring part is not used.
 use mathlib.Core.List.{List}
-use mathlib.Core.Path.{_∙_, _≡_, subst, sym}
+use mathlib.Core.Path.{_∙_, _≡_, ap, subst, sym}
 use Prim.Native.Nat.{_*_, _+_, _<_, ℕ}
 use lib.ListN.{length}
 use Rattle.theory.proofs.Balanced.{literal, word-of}
-use Rattle.theory.proofs.Carry.{carry, carry-low, carry-uncarry, time-inj, uncarry, uncarry-carry, uncarry-low}
+use Rattle.theory.proofs.Carry.{by-walk-next, carry, carry-low, carry-uncarry, time-inj, uncarry, uncarry-carry, uncarry-low}
 use Rattle.theory.proofs.Linked.{Worded, follows-length, follows-letters, linked}
 use Rattle.theory.proofs.Naming.{carry-vertex, naming, naming-low, naming-unnaming, news-count, read-back-low, unnaming, unnaming-low, unnaming-naming}
 use Rattle.theory.proofs.Runs.{Follows}
@@ -24,7 +25,7 @@ use Rattle.theory.proofs.WholeRun.{ahead-all, cornerOf, letterOf, steps
 use Rattle.theory.proofs.WordCloses.{carry-opposite, word-sound, word-two}
 use Rattle.theory.specs.Corner.{opposite, triangle, vertex}
 use Rattle.theory.specs.Mesh.{Sphere}
-use Rattle.theory.specs.Renumber.{byWalk, turned}
+use Rattle.theory.specs.Renumber.{Renumbering, byWalk, turned}
 use Rattle.theory.specs.Tables.{tableO, tableV}
 use Rattle.theory.specs.Walk.{Step, cornersOf, lettersOf, walkFrom}
 use Rattle.theory.specs.Word.{Closes, Sound, Word, news, size, spell, width}
@@ -114,3 +115,18 @@ module _ {lab opp : ℕ → ℕ} {t v g : ℕ} (mesh : Sphere lab opp t v g) whe
 pub round-closes : {lab opp : ℕ → ℕ} {t v g : ℕ} {steps : List Step} → Round lab opp t v g steps
     → Closes (lettersOf steps)
 round-closes r = record { word = r .word; spelt = r .spelt; sound = r .sound; two = r .two }
+
+-- the tables read back are the mesh but for its numbers
+pub round-renumbers : {lab opp : ℕ → ℕ} {t v g : ℕ} {steps : List Step} (r : Round lab opp t v g steps)
+    → Renumbering (vertex (tableV (r .word))) (opposite (tableO (r .word))) lab opp t v 0 g (byWalk (cornersOf steps))
+    (r .name)
+round-renumbers {steps = steps} r = record {
+  gate = r .gate;
+  low = r .low;
+  inj = λ x y p q e. sym (r .here x) ∙ ap (r .back) e ∙ r .here y;
+  turning = λ x b. by-walk-next (cornersOf steps) x;
+  neighbour = λ x b. sym (r .neighbours x b);
+  vertex = r .vertices;
+  names-low = r .name-low;
+  names-inj = λ u w p q e. sym (r .unname-name u p) ∙ ap (r .unname) e ∙ r .unname-name w q;
+}
