@@ -2,7 +2,7 @@
 use mathlib.Core.Path.{_∙_}
 use lib.Ieee.{fits}
 use borrow.Author.Needs.{needs}
-use Rattle.judge.proofs.Checks.{breaks-five, breaks-four, breaks-three, none-breaks}
+use Rattle.theory.proofs.JudgeLaws.{breaks-five, breaks-four, breaks-three, none-breaks}
 use Rattle.judge.proofs.judge_letters.Statement.{statement}
 use Rattle.judge.proofs.judge_letters.Tie as tie
 
