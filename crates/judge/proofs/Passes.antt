@@ -1,7 +1,7 @@
 -- The loop that reads the letters from the right: its invariant, how it begins, a turn of it, and its ends.
 --
---   Passing s work₀ work p i   the letters from i on are read: work from p on is the widths of their words, and no C among
---                              them stands before a word of width 2
+--   Passing s work₀ work p i   the letters from i on are read: work from p on is the widths of their words, and no C
+--                              among them stands before a word of width 2
 --   begins ready turns         the invariant, and what a step asks for
 --   stops ends-wide ends-done  the three answers
 use mathlib.Core.Bool.{_&&_, false, not, true}
@@ -14,7 +14,7 @@ use lib.ListN.{drop, getD, length, length-drop}
 use lib.Seq.{drop-cons, drop-length}
 use borrow.Author.Tests.{eq-eqb, ne-eqb}
 use Rattle.judge.proofs.WidthLaws.{before-length, before-total, before-wide, letter-new, two-first, widths, widths-before}
-use Rattle.judge.specs.Widths.{Ready, Wide, total, widthsBefore}
+use Rattle.judge.specs.Widths.{Ready, Stepped, Wide, total, widthsBefore}
 use Rattle.theory.proofs.GreatestLaws.{Above, down-end, down-stop, down-turn}
 use Rattle.theory.proofs.JudgeLaws.{breaks-seven, breaks-six, seven-passed}
 use Rattle.theory.proofs.TestLaws.{and-rest}
@@ -70,17 +70,20 @@ module _ (s w₀ w : List ℕ) (p i : ℕ) (inv : Passing s w₀ w p i) (more : 
   pub ready : length s ≤ 65536 → length s ≤ length w₀ → Ready p w
   ready h k = record { room = omega arith; within = inv .within; wide = inv .wide; small = omega arith }
 
-  pub turns : (w′ : List ℕ) (r : ℕ) → length w′ ≡ length w → (eqb (getD s (i - 1) 0) (byte C) && eqb (head (drop p w)) 2) ≡ false
-      → r ≤ length w′ → drop r w′ ≡ widthsBefore (letter (getD s (i - 1) 0)) (drop p w) → Passing s w₀ w′ r (i - 1)
-  turns w′ r same calm within e =
+  pub turns : (w′ : List ℕ) (r : ℕ) → length w′ ≡ length w
+      → (eqb (getD s (i - 1) 0) (byte C) && eqb (head (drop p w)) 2) ≡ false
+      → Stepped (letter (getD s (i - 1) 0)) w p w′ r → Passing s w₀ w′ r (i - 1)
+  turns w′ r same calm stepped =
       let b = getD s (i - 1) 0 in
       let a = letter b in
+      let e = stepped .stack in
+      let good = ap not (sym (test-same s (drop p w) i more (inv .stack)) ∙ calm) in
       record {
         at = omega arith;
         same = same ∙ inv .same;
-        within = within;
+        within = stepped .within;
         stack = e ∙ ap (widthsBefore a) (inv .stack) ∙ sym (widths-cons s i more (inv .at));
-        free = down-turn (λ q. not (pinchedAt s q)) (length s) i (inv .free) (ap not (sym (test-same s (drop p w) i more (inv .stack)) ∙ calm));
+        free = down-turn (λ q. not (pinchedAt s q)) (length s) i (inv .free) good;
         wide = rw e (before-wide a (drop p w) (λ new. and-rest _ _ (letter-new b new) calm) (inv .wide));
         small = rw e (omega (arith, before-total a (drop p w)));
         room = omega (arith, ap length e, length-drop r w′, length-drop p w, before-length a (drop p w));
@@ -90,7 +93,8 @@ module _ (s w₀ w : List ℕ) (p i : ℕ) (inv : Passing s w₀ w p i) (more : 
       → refused 6 (i - 1) ≡ firstBroken (drop 3 (letterRungs s)) (stringDone s)
   stops e =
       let bad = ap not (sym (test-same s (drop p w) i more (inv .stack)) ∙ e) in
-      breaks-six s (i - 1) (omega (arith, inv .at)) (down-stop (λ q. not (pinchedAt s q)) (length s) i (inv .free) more (inv .at) bad)
+      let last = down-stop (λ q. not (pinchedAt s q)) (length s) i (inv .free) more (inv .at) bad in
+      breaks-six s (i - 1) (omega (arith, inv .at)) last
 
 module _ (s w₀ w : List ℕ) (p i : ℕ) (inv : Passing s w₀ w p i) (end : i ≤ 0) where
   none-pinched : greatest (λ q. not (pinchedAt s q)) (length s) ≡ length s
