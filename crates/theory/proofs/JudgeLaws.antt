@@ -16,18 +16,20 @@ use Rattle.theory.specs.Judge.{letterAnswer, letterRungs, pinchedAt, str
 use Rattle.theory.specs.Letter.{isLetter}
 use Rattle.theory.specs.Lists.{greatest, least}
 use Rattle.theory.specs.Word.{width, wordOf}
-use denote.Struct.Rest.{rest}
 
 module _ (s : List ℕ) (f : ℕ) (found : f ≡ least (λ i. isLetter (getD s i 0)) (length s)) where
   pub breaks-three : f < length s → refused 3 f ≡ letterAnswer s
   unfolding letterAnswer
   breaks-three h =
       let rest = drop 1 (letterRungs s) in
-      sym (each-stops 3 (λ i. isLetter (getD s i 0)) (length s) rest (stringDone s) (omega (arith, found)) ∙ ap (refused 3) (sym found))
+      let stops = each-stops 3 (λ i. isLetter (getD s i 0)) (length s) rest (stringDone s) (omega (arith, found)) in
+      sym (stops ∙ ap (refused 3) (sym found))
 
   three-passed : length s ≤ f → letterAnswer s ≡ firstBroken (drop 1 (letterRungs s)) (stringDone s)
   unfolding letterAnswer
-  three-passed h = each-passed 3 (λ i. isLetter (getD s i 0)) (length s) (drop 1 (letterRungs s)) (stringDone s) (omega (arith, found))
+  three-passed h =
+      let rest = drop 1 (letterRungs s) in
+      each-passed 3 (λ i. isLetter (getD s i 0)) (length s) rest (stringDone s) (omega (arith, found))
 
 -- e is where the first word ends
 module _ (s : List ℕ) (f : ℕ) (found : f ≡ least (λ i. isLetter (getD s i 0)) (length s)) (letters : length s ≤ f)
@@ -40,14 +42,18 @@ module _ (s : List ℕ) (f : ℕ) (found : f ≡ least (λ i. isLetter (getD s i
 
   pub breaks-four : length s < e → refused 4 (length s) ≡ letterAnswer s
   breaks-four h =
-      sym (three-passed s f found letters ∙ rung-stops four (drop 2 (letterRungs s)) (stringDone s) (omega (arith, end)))
+      let stops = rung-stops four (drop 2 (letterRungs s)) (stringDone s) (omega (arith, end)) in
+      sym (three-passed s f found letters ∙ stops)
 
   four-passed : e ≤ length s → letterAnswer s ≡ firstBroken (drop 2 (letterRungs s)) (stringDone s)
-  four-passed h = three-passed s f found letters ∙ rung-passed four (drop 2 (letterRungs s)) (stringDone s) (omega (arith, end))
+  four-passed h =
+      three-passed s f found letters
+      ∙ rung-passed four (drop 2 (letterRungs s)) (stringDone s) (omega (arith, end))
 
   pub breaks-five : e ≤ length s → e < length s → refused 5 e ≡ letterAnswer s
   breaks-five h k =
-      sym (four-passed h ∙ rung-stops five (drop 3 (letterRungs s)) (stringDone s) (omega (arith, end)) ∙ ap (refused 5) (sym end))
+      let stops = rung-stops five (drop 3 (letterRungs s)) (stringDone s) (omega (arith, end)) in
+      sym (four-passed h ∙ stops ∙ ap (refused 5) (sym end))
 
   pub none-breaks : e ≤ length s → length s ≤ e → firstBroken (drop 3 (letterRungs s)) (stringDone s) ≡ letterAnswer s
   none-breaks h k = sym (four-passed h ∙ rung-passed five (drop 3 (letterRungs s)) (stringDone s) (omega (arith, end)))

@@ -1,4 +1,4 @@
--- Pinches: a C before a word of width 2, as a test at a place, as a place in the letters, and as a word that is not sound.
+-- Pinches: a C before a word of width 2, as a test at a place, as a place in the letters, as what a sound word has not.
 --
 --   Pinch s p                 a C stands at p of s before a word of width 2
 --   pinch-test pinch-found    it is what the test says, in the letters of a word
@@ -88,14 +88,17 @@ part-at (wR w) s (suc p) h = part-next (byte R) (spell w ++ s) p (part-at w s p 
 part-at (wS v w) s zero h = part-whole (wS v w) s
 part-at (wS v w) s (suc p) h =
     rw (append-assoc (spell v) (spell w) s)
-    (part-next (byte S) (spell v ++ (spell w ++ s)) p (go (decLt p (length (spell v))) (part-at v (spell w ++ s) p) (part-at w s (p - length (spell v)))))
+    (part-next (byte S) (spell v ++ (spell w ++ s)) p
+    (go (decLt p (length (spell v))) (part-at v (spell w ++ s) p) (part-at w s (p - length (spell v)))))
   where
     go : Dec (p < length (spell v)) → (p < length (spell v) → Part (spell v ++ (spell w ++ s)) p)
-        → (p - length (spell v) < length (spell w) → Part (spell w ++ s) (p - length (spell v))) → Part (spell v ++ (spell w ++ s)) p
+        → (p - length (spell v) < length (spell w) → Part (spell w ++ s) (p - length (spell v)))
+        → Part (spell v ++ (spell w ++ s)) p
     go (yes l) one two = one l
     go (no l) one two =
         let q : p ≡ length (spell v) + (p - length (spell v)) = omega arith in
-        rw q (part-behind (spell v) (spell w ++ s) (p - length (spell v)) (two (omega (arith, length-append (spell v) (spell w)))))
+        let second = two (omega (arith, length-append (spell v) (spell w))) in
+        rw q (part-behind (spell v) (spell w ++ s) (p - length (spell v)) second)
 
 new-only : (x : Word) (s : List ℕ) → pinchedAt (spell x ++ s) 0 ≡ true → (y : Word) × (x ≡ wC y) × (width y ≡ 2)
 unfolding pinchedAt spell
@@ -111,7 +114,8 @@ pinch-found w p h e =
     let part = subst (λ (t : List ℕ). Part t p) (append-nil (spell w)) (part-at w [] p h) in
     let t = spell (part .word) ++ part .rest in
     let q : length (part .front) + 0 ≡ p = omega (arith, part .place) in
-    let test = ap (λ (k : ℕ). pinchedAt (part .front ++ t) k) q ∙ ap (λ (r : List ℕ). pinchedAt r p) (sym (part .stands)) ∙ e in
+    let moved = ap (λ (r : List ℕ). pinchedAt r p) (sym (part .stands)) in
+    let test = ap (λ (k : ℕ). pinchedAt (part .front ++ t) k) q ∙ moved ∙ e in
     let new = new-only (part .word) (part .rest) (sym (pinched-behind (part .front) t 0) ∙ test) in
     record {
       front = part .front;
@@ -148,13 +152,20 @@ unfolding spell pinchedAt
 sound-free wE s h zero l = refl
 sound-free wE s h (suc p) l = absurd (omega arith)
 sound-free (wC w) s h p l =
-    free-cons (byte C) w s (sound-free w s (h .0)) (pinched-new w s ∙ ne-eqb (width w) 2 (λ e. absurd (omega (arith, h .1, e)))) p l
+    let calm = pinched-new w s ∙ ne-eqb (width w) 2 (λ e. absurd (omega (arith, h .1, e))) in
+    free-cons (byte C) w s (sound-free w s (h .0)) calm p l
 sound-free (wL w) s h p l = free-cons (byte L) w s (sound-free w s h) refl p l
 sound-free (wR w) s h p l = free-cons (byte R) w s (sound-free w s h) refl p l
 sound-free (wS v w) s h zero l = refl
 sound-free (wS v w) s h (suc p) l =
+    let n : p < length (spell v) + length (spell w) = omega (arith, length-append (spell v) (spell w)) in
     rw (append-assoc (spell v) (spell w) s)
-    (free-append v w s (sound-free v (spell w ++ s) (h .0)) (sound-free w s (h .1)) p (omega (arith, length-append (spell v) (spell w))))
+    (free-append v w s (sound-free v (spell w ++ s) (h .0)) (sound-free w s (h .1)) p n)
+
+-- the letters behind an S
+free-behind : (t u s : List ℕ) → t ++ s ≡ u → ((p : ℕ) → p < suc (length t) → pinchedAt (byte S ∷ (t ++ s)) p ≡ false)
+    → (p : ℕ) → p < length t → pinchedAt u p ≡ false
+free-behind t u s e h p l = rw (← e) (sym (pinched-next (byte S) (t ++ s) p) ∙ h (suc p) (omega arith))
 
 pub free-sound : (w : Word) (s : List ℕ) → Free w s → Sound w
 unfolding spell
@@ -166,10 +177,10 @@ free-sound (wC w) s h =
 free-sound (wL w) s h = free-sound w s (λ p l. sym (pinched-next (byte L) (spell w ++ s) p) ∙ h (suc p) (omega arith))
 free-sound (wR w) s h = free-sound w s (λ p l. sym (pinched-next (byte R) (spell w ++ s) p) ∙ h (suc p) (omega arith))
 free-sound (wS v w) s h =
+    let n : length (spell v ++ spell w) ≡ length (spell v) + length (spell w) = length-append (spell v) (spell w) in
     let both : (p : ℕ) → p < length (spell v ++ spell w) → pinchedAt (spell v ++ (spell w ++ s)) p ≡ false =
-    λ p l. sym (pinched-next (byte S) (spell v ++ (spell w ++ s)) p)
-    ∙ ap (λ (t : List ℕ). pinchedAt (byte S ∷ t) (suc p)) (sym (append-assoc (spell v) (spell w) s)) ∙ h (suc p) (omega arith) in
-    let n : length (spell v ++ spell w) ≡ length (spell v) + length (spell w) = length-append (spell v) (spell w) in (
-      free-sound v (spell w ++ s) (λ p l. both p (omega (arith, n))),
-      free-sound w s (λ p l. sym (pinched-behind (spell v) (spell w ++ s) p) ∙ both (length (spell v) + p) (omega (arith, n))),
-    )
+    λ p l. free-behind (spell v ++ spell w) (spell v ++ (spell w ++ s)) s (append-assoc (spell v) (spell w) s) h p l in
+    let first = free-sound v (spell w ++ s) (λ p l. both p (omega (arith, n))) in
+    let behind : Free w s =
+    λ p l. sym (pinched-behind (spell v) (spell w ++ s) p) ∙ both (length (spell v) + p) (omega (arith, n)) in
+    (first, free-sound w s behind)

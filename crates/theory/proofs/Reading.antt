@@ -39,7 +39,8 @@ letters-spell (wC w) = letters-cons (byte C) (spell w) (byte-is-letter C) (lette
 letters-spell (wL w) = letters-cons (byte L) (spell w) (byte-is-letter L) (letters-spell w)
 letters-spell (wR w) = letters-cons (byte R) (spell w) (byte-is-letter R) (letters-spell w)
 letters-spell (wS v w) =
-    letters-cons (byte S) (spell v ++ spell w) (byte-is-letter S) (letters-append (spell v) (spell w) (letters-spell v) (letters-spell w))
+    let both = letters-append (spell v) (spell w) (letters-spell v) (letters-spell w) in
+    letters-cons (byte S) (spell v ++ spell w) (byte-is-letter S) both
 
 pub end-none : (s : List ℕ) → wordsEnd s 0 ≡ 0
 unfolding wordsEnd
@@ -71,7 +72,8 @@ pub record Read (n : ℕ) (s : List ℕ) : Type 0 where
   pub ends : wordsEnd rest n ≤ length rest
 
 -- a letter before a word
-one-more : (n b : ℕ) (s : List ℕ) (f : Word → Word) → ((w : Word) → spell (f w) ≡ b ∷ spell w) → Read n s → Read n (b ∷ s)
+one-more : (n b : ℕ) (s : List ℕ) (f : Word → Word) → ((w : Word) → spell (f w) ≡ b ∷ spell w)
+    → Read n s → Read n (b ∷ s)
 one-more n b s f e r =
     record {
       word = f (r .word);
@@ -85,7 +87,8 @@ one-more n b s f e r =
 two-more : (n : ℕ) (s : List ℕ) (v : Read (suc n) s) → Read n (v .rest) → Read n (byte S ∷ s)
 unfolding spell
 two-more n s v w =
-    let both = v .spelt ∙ ap (λ (t : List ℕ). spell (v .word) ++ t) (w .spelt) ∙ sym (append-assoc (spell (v .word)) (spell (w .word)) (w .rest)) in
+    let grouped = sym (append-assoc (spell (v .word)) (spell (w .word)) (w .rest)) in
+    let both = v .spelt ∙ ap (λ (t : List ℕ). spell (v .word) ++ t) (w .spelt) ∙ grouped in
     record {
       word = wS (v .word) (w .word);
       rest = w .rest;
@@ -104,7 +107,8 @@ read-within zero n [] h g e = absurd (omega arith)
 read-within zero n (b ∷ s) h g e = absurd (omega arith)
 read-within (suc k) n [] h g e = absurd (omega arith)
 read-within (suc k) n (b ∷ s) h g e =
-    go (letter b) (byte-letter b (g 0 (omega arith))) (omega (arith, e)) (λ m. read-within k m s (omega arith) (letters-tail b s g)) (read-within k n)
+    let known = byte-letter b (g 0 (omega arith)) in
+    go (letter b) known (omega (arith, e)) (λ m. read-within k m s (omega arith) (letters-tail b s g)) (read-within k n)
   where
     go : (a : Letter) → byte a ≡ b → wordsEnd s (wanted a n) ≤ length s
         → ((m : ℕ) → wordsEnd s (suc m) ≤ length s → Read m s)

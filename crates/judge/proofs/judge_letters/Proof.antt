@@ -37,8 +37,8 @@ returns-2 c =
     let ended = c .before .before in
     let found = ended .before .before in
     let s = found .before .before .before .args .s .now in
-    let all = ended .before .if1 .left in
-    let ends = breaks-four s _ (found .first-foreign .ensures) all _ (ended .words-end .ensures) in
+    let letters = ended .before .if1 .left in
+    let ends = breaks-four s _ (found .first-foreign .ensures) letters _ (ended .words-end .ensures) in
     c .refuse2 .ensures ∙ ends (c .before .if2 .taken)
 
 cast-refuse-3 : tie.Need-cast-refuse-3
@@ -52,7 +52,8 @@ returns-3 c =
     let ended = c .before .before .before in
     let found = ended .before .before in
     let s = found .before .before .before .args .s .now in
-    let ends = breaks-five s _ (found .first-foreign .ensures) (ended .before .if1 .left) _ (ended .words-end .ensures) in
+    let letters = ended .before .if1 .left in
+    let ends = breaks-five s _ (found .first-foreign .ensures) letters _ (ended .words-end .ensures) in
     c .refuse3 .ensures ∙ ends (c .before .before .if2 .left) (c .before .if3 .taken)
 
 judge-widths-requires : tie.Need-judge-widths-requires
@@ -68,7 +69,8 @@ returns-4 c =
     let ended = fits .before .before in
     let found = ended .before .before in
     let s = found .before .before .before .args .s .now in
-    let ends = none-breaks s _ (found .first-foreign .ensures) (ended .before .if1 .left) _ (ended .words-end .ensures) in
+    let letters = ended .before .if1 .left in
+    let ends = none-breaks s _ (found .first-foreign .ensures) letters _ (ended .words-end .ensures) in
     judged .judge-widths .ensures ∙ ends (fits .before .if2 .left) (fits .if3 .left)
 
 pub judge-letters-spec : {M : Type 1} → statement M

@@ -65,8 +65,8 @@ loop-again c =
     let turn = test .before .before .before in
     let inv = turn .before .loop .inv in
     let calm = sym (test .pinched .ensures) ∙ step .before .before .if1 .left in
-    let more = turns _ _ _ _ _ (inv .1) (turn .loop-test .taken) _ _ (step .step .kept .1 .0) calm (step .step .ensures) in
-    (inv .0, more)
+    let same = step .step .kept .1 .0 in
+    (inv .0, turns _ _ _ _ _ (inv .1) (turn .loop-test .taken) _ _ same calm (step .step .ensures))
 
 top-requires : tie.Need-top-requires Inv-loop μ-loop
 top-requires c κs = search needs
