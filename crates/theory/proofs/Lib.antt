@@ -10,6 +10,11 @@ pub mod AnswerLaws
 pub mod CornerLaws
 pub mod LetterLaws
 pub mod WordLaws
+pub mod JudgeLaws
+pub mod Reading
+pub mod Pinches
+pub mod Verdict
+pub mod Closing
 pub mod Opens
 pub mod Chain
 pub mod JoinLaws
