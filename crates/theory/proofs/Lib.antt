@@ -27,5 +27,6 @@ pub mod WordSteps
 pub mod WordTables
 pub mod WordRings
 pub mod ReadMesh
+pub mod JoinedTables
 pub mod CallLaws
 pub mod Marked

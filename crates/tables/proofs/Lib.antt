@@ -1,0 +1,5 @@
+-- The first pass in the tables, then what it makes of a word; the second pass likewise.
+pub mod Turning
+pub mod Unwinding
+pub mod Stepping
+pub mod Zipping
