@@ -3,3 +3,5 @@ pub mod Turning
 pub mod Unwinding
 pub mod Stepping
 pub mod Zipping
+pub mod Joining
+pub mod Neighbours
