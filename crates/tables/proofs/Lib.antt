@@ -5,3 +5,8 @@ pub mod Stepping
 pub mod Zipping
 pub mod Joining
 pub mod Neighbours
+pub mod Noted
+pub mod Filling
+pub mod Filled
+pub mod Behind
+pub mod Vertices
