@@ -1,7 +1,8 @@
 -- The second pass in the tables: a row, and the loop over the letters (`Filling`), its start, a turn and its end.
 --
 --   after-at before-at      two reads through a facing corner
---   tip-C .. left-first ..  the tip and the ends of a triangle, case by case
+--   tip-letter ..           by the letter that a byte stands for
+--   left-first ..           the ends of a triangle, case by case
 --   rowed                   three stores are a step
 use mathlib.Core.List.{List}
 use mathlib.Core.Path.{_∙_, _≡_, ap, refl, sym}
@@ -27,27 +28,16 @@ module _ (os vs : List ℕ) (c x y z : ℕ) (e : x ≡ getD os c 0) (g : z ≡ g
   unfolding beforeFacing
   before-at f = rw (← e, ← f) g
 
+pub tip-letter : {x : ℕ} (k n : ℕ) (os vs : List ℕ) (a b : Letter) → a ≡ b → x ≡ tip a k n os vs → x ≡ tip b k n os vs
+tip-letter k n os vs a b e h = rw (← e) h
+
+pub tip-recorded : (k x y : ℕ) (os vs : List ℕ) → y ≡ getD vs (3 * k) 0 → x ≡ afterFacing os vs y → x ≡ afterFacing os vs (getD vs (3 * k) 0)
+tip-recorded k x y os vs e h = rw (← e) h
+
+pub fresh-letter : {x : ℕ} (n : ℕ) (a b : Letter) → a ≡ b → x ≡ fresh a n → x ≡ fresh b n
+fresh-letter n a b e h = rw (← e) h
+
 module _ (a : Letter) (k n : ℕ) (os vs : List ℕ) where
-  pub tip-C : C ≡ a → n ≡ tip a k n os vs
-  unfolding tip
-  tip-C l = rw (← l) refl
-
-  pub tip-L : (x : ℕ) → L ≡ a → x ≡ beforeFacing os vs (3 * k + 2) → x ≡ tip a k n os vs
-  unfolding tip
-  tip-L x l e = rw (← l) e
-
-  pub tip-E : (x : ℕ) → E ≡ a → x ≡ afterFacing os vs (3 * k + 1) → x ≡ tip a k n os vs
-  unfolding tip
-  tip-E x l e = rw (← l) e
-
-  pub tip-R : (x : ℕ) → R ≡ a → x ≡ afterFacing os vs (3 * k + 1) → x ≡ tip a k n os vs
-  unfolding tip
-  tip-R x l e = rw (← l) e
-
-  pub tip-S : (x b : ℕ) → S ≡ a → b ≡ getD vs (3 * k) 0 → x ≡ afterFacing os vs b → x ≡ tip a k n os vs
-  unfolding tip
-  tip-S x b l eb e = rw (← l) (e ∙ ap (afterFacing os vs) eb)
-
   pub rowed : (x l r : ℕ) (vs₁ vs₂ vs₃ : List ℕ) → x ≡ tip a k n os vs → l ≡ leftEnd k os vs → r ≡ rightEnd k os vs
       → vs₁ ≡ set vs (3 * k) x → vs₂ ≡ set vs₁ (3 * k + 1) l → vs₃ ≡ set vs₂ (3 * k + 2) r → vs₃ ≡ fillStep a k n os vs
   unfolding fillStep row

@@ -10,3 +10,4 @@ pub mod Filling
 pub mod Filled
 pub mod Behind
 pub mod Vertices
+pub mod Building

@@ -3,6 +3,7 @@
 --   stands-wait   C, L and S: the side x waits
 --   stands-R      R: a side is left open
 --   stands-end    E: two sides are left open, then the waiting ones are met
+--   stands-letter by the letter that a byte stands for
 use mathlib.Core.List.{List, _∷_}
 use mathlib.Core.Path.{_∙_, _≡_, ap, refl}
 use Prim.Native.Nat.{_*_, _+_, _-_, ℕ}
@@ -11,11 +12,11 @@ use lib.ListN.{drop, length, length-set, set, take}
 use lib.Seq.{drop-set-lt, length-take-le, take-set-le, take-set-lt}
 use Rattle.lent.proofs.Stacks.{push-set}
 use Rattle.tables.specs.Standing.{Room, Stands, zipIn}
-use Rattle.tables.specs.Zip.{unwind, waits, zipStep}
+use Rattle.tables.specs.Zip.{Zip, unwind, waits, zipStep}
 use Rattle.theory.proofs.LetterLaws.{is}
 use Rattle.theory.specs.Tables.{joinAt}
 use Rattle.theory.specs.declared.Letter.{Letter}
-use Rattle.theory.specs.declared.Letter.the-variants.{C, E, L, R, S}
+use Rattle.theory.specs.declared.Letter.the-variants.{E, R}
 
 module _ (t k q p : ℕ) (work os vs : List ℕ) (room : Room t k q p work) where
   -- a store at the top of the waiting sides leaves the open ones as they are
@@ -48,37 +49,16 @@ module _ (t k q p : ℕ) (work os vs : List ℕ) (room : Room t k q p work) wher
     ap length f ∙ length-set work (p - 1) x,
   )
 
-  module _ (a : Letter) where
-    pub stands-C : (q′ : ℕ) (work′ os′ : List ℕ) → C ≡ a → Stands t q′ p work′ os′ vs (waits (3 * (3 * k + 2) + 1) k (zipIn t work os vs q p))
-        → Stands t q′ p work′ os′ vs (zipStep a k (zipIn t work os vs q p))
-    unfolding zipStep
-    stands-C q′ work′ os′ l h = rw (← l) h
-
-    pub stands-L : (q′ : ℕ) (work′ os′ : List ℕ) → L ≡ a → Stands t q′ p work′ os′ vs (waits (3 * (3 * k + 2)) k (zipIn t work os vs q p))
-        → Stands t q′ p work′ os′ vs (zipStep a k (zipIn t work os vs q p))
-    unfolding zipStep
-    stands-L q′ work′ os′ l h = rw (← l) h
-
-    pub stands-S : (q′ : ℕ) (work′ os′ : List ℕ) → S ≡ a → Stands t q′ p work′ os′ vs (waits (3 * (3 * k + 2) + 2) k (zipIn t work os vs q p))
-        → Stands t q′ p work′ os′ vs (zipStep a k (zipIn t work os vs q p))
-    unfolding zipStep
-    stands-S q′ work′ os′ l h = rw (← l) h
-
-    pub stands-R : (p′ : ℕ) (work′ os′ : List ℕ) → R ≡ a → os′ ≡ joinAt (3 * k + 2) (3 * (k + 1)) os → p′ ≡ p - 1
-        → work′ ≡ set work (p - 1) (3 * k + 1) → Stands t q p′ work′ os′ vs (zipStep a k (zipIn t work os vs q p))
-    unfolding zipIn zipStep
-    stands-R p′ work′ os′ l g e f =
-        let w = pushed (3 * k + 1) p′ work′ e f in
-        rw (← l)
-        record {
-          at = room .at;
-          within = omega (arith, room .within, w .2);
-          is = rw (w .0, w .1, g) refl;
-        }
-
-    pub stands-E : (q′ p′ : ℕ) (work′ os′ vs′ : List ℕ) → E ≡ a → Stands t q′ p′ work′ os′ vs′ (zipStep E k (zipIn t work os vs q p))
-        → Stands t q′ p′ work′ os′ vs′ (zipStep a k (zipIn t work os vs q p))
-    stands-E q′ p′ work′ os′ vs′ l h = rw (← l) h
+  pub stands-R : (p′ : ℕ) (work′ os′ : List ℕ) → os′ ≡ joinAt (3 * k + 2) (3 * (k + 1)) os → p′ ≡ p - 1
+      → work′ ≡ set work (p - 1) (3 * k + 1) → Stands t q p′ work′ os′ vs (zipStep R k (zipIn t work os vs q p))
+  unfolding zipIn zipStep
+  stands-R p′ work′ os′ g e f =
+      let w = pushed (3 * k + 1) p′ work′ e f in
+      record {
+        at = room .at;
+        within = omega (arith, room .within, w .2);
+        is = rw (w .0, w .1, g) refl;
+      }
 
   pub stands-end : (p₁ p₂ : ℕ) (work₁ work₂ : List ℕ) → p₁ ≡ p - 1 → work₁ ≡ set work (p - 1) (3 * k + 1) → p₂ ≡ p₁ - 1
       → work₂ ≡ set work₁ (p₁ - 1) (3 * k + 2)
@@ -90,3 +70,7 @@ module _ (t k q p : ℕ) (work os vs : List ℕ) (room : Room t k q p work) wher
       let a : take t work₂ ≡ take t work = ap (take t) f₂ ∙ take-set-le t work₁ (p₁ - 1) (3 * k + 2) (omega (arith, room .high)) ∙ w .0 in
       let b : drop p₂ work₂ ≡ (3 * k + 2) ∷ drop p₁ work₁ = rw (e₂, f₂) (push-set work₁ p₁ (3 * k + 2) (omega (arith, room .high)) (omega (arith, room .within, w .2))) in
       rw (a, b, w .1) at h
+
+pub stands-letter : {t q p : ℕ} {work os vs : List ℕ} (k : ℕ) (z : Zip) (a b : Letter) → a ≡ b
+    → Stands t q p work os vs (zipStep a k z) → Stands t q p work os vs (zipStep b k z)
+stands-letter k z a b e h = rw (← e) h

@@ -80,19 +80,19 @@ fill-C w sound two vs n =
     let A = agree (vertex vt) 0 2 (wC w) us rs sound (omega arith) rows edges in
     let bottom : Ends vt vs₀ ot same 0 = (sym (rows .0 .1), sym (rows .0 .2)) in
     let start : OnLoop vt vs₀ ot same w 1 3 (1 ∷ (0 ∷ (2 ∷ []))) (0 ∷ (2 ∷ [])) =
-      record {
-        sound = sound .0;
-        loop = omega arith;
-        remembered = omega arith;
-        rows = rows .1;
-        edges = edges-snoc (vertex vt) us rs 2 2 edges (rw (previous-right 0) (rows .0 .1)) (rw (next-right 0) (rows .0 .0));
-        linked = linked .1;
-        zipped = zipped;
-        low = (omega arith, (omega arith, tt));
-        bottom = ends-link vt vs₀ ot same 1 1 (omega arith) (omega arith) (linked .0) (A .0 .0);
-        noted = noted-holds 0 (wC w) vs (omega arith);
-        within = omega arith;
-      } in
+    record {
+      sound = sound .0;
+      loop = omega arith;
+      remembered = omega arith;
+      rows = rows .1;
+      edges = edges-snoc (vertex vt) us rs 2 2 edges (rw (previous-right 0) (rows .0 .1)) (rw (next-right 0) (rows .0 .0));
+      linked = linked .1;
+      zipped = zipped;
+      low = (omega arith, (omega arith, tt));
+      bottom = ends-link vt vs₀ ot same 1 1 (omega arith) (omega arith) (linked .0) (A .0 .0);
+      noted = noted-holds 0 (wC w) vs (omega arith);
+      within = omega arith;
+    } in
     ap (λ (l : List ℕ). fillRun (spell w) 1 3 ot (fillStep C 0 2 ot l)) (sym (mix-none vt vs₀ ot same))
     ∙ step vt vs₀ ot same C 0 2 (sym (rows .0 .0)) bottom (omega arith) (spell w) 3
     ∙ ap (λ (l : List ℕ). fillRun l 1 3 ot (mix vt vs₀ ot same 3)) (sym (append-nil (spell w)))

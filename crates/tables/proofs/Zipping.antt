@@ -11,7 +11,7 @@ use lib.ListN.{drop, drop-of-length-le, getD, length, length-drop, take}
 use lib.Seq.{drop-cons, drop-length, length-take-le}
 use Rattle.tables.proofs.Turning.{unwind-C, unwind-L, unwind-S}
 use Rattle.tables.specs.Standing.{Room, Stands, zipIn}
-use Rattle.tables.specs.Zip.{Kind, Zip, kind, onC, onL, onS, unwind, waits, zipFrom, zipO, zipRun, zipStep, zipV}
+use Rattle.tables.specs.Zip.{Kind, Zip, Zipped, kind, onC, onL, onS, unwind, waits, zipFrom, zipO, zipRun, zipStep, zipV}
 use Rattle.theory.specs.Letter.{letter}
 use Rattle.theory.specs.Lists.{head, some, tail}
 use Rattle.theory.specs.Tables.{joinAt}
@@ -121,10 +121,11 @@ module _ (s work₀ os₀ vs₀ work os vs : List ℕ) (q p k : ℕ) (inv : Zipp
       }
 
   pub zipping-end : length s ≤ k → (b : ℕ) (os′ : List ℕ) → b ≡ head (drop p work) → os′ ≡ joinAt b 0 os
-      → (os′ ≡ zipO s os₀ vs₀) × (vs ≡ zipV s os₀ vs₀)
+      → Zipped s os₀ vs₀ os′ vs
   unfolding zipO zipV zipRun zipIn
   zipping-end h b os′ e f =
-      let z : zipRun s 0 (zipFrom os₀ vs₀) ≡ zipIn (length s) work os vs q p = inv .same ∙ rw (drop-of-length-le s {i = k} h) refl in (
-        f ∙ ap (λ (x : ℕ). joinAt x 0 os) e ∙ sym (ap (λ (y : Zip). joinAt (head (y .sides)) 0 (y .os)) z),
-        sym (ap (λ (y : Zip). y .vs) z),
-      )
+      let z : zipRun s 0 (zipFrom os₀ vs₀) ≡ zipIn (length s) work os vs q p = inv .same ∙ rw (drop-of-length-le s {i = k} h) refl in
+      record {
+        neighbours = f ∙ ap (λ (x : ℕ). joinAt x 0 os) e ∙ sym (ap (λ (y : Zip). joinAt (head (y .sides)) 0 (y .os)) z);
+        records = sym (ap (λ (y : Zip). y .vs) z);
+      }

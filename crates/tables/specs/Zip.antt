@@ -9,6 +9,7 @@
 --   zipO zipV            the tables after all letters, the last open side joined to corner 0
 use mathlib.Core.Bool.{cond}
 use mathlib.Core.List.{List, [], _∷_}
+use mathlib.Core.Path.{_≡_}
 use Prim.Native.Nat.{_%_, _*_, _+_, _/_, ℕ}
 use lib.Dec.{eqb}
 use lib.ListN.{set}
@@ -65,3 +66,8 @@ zipO s os vs = joinAt (head (zipRun s 0 (zipFrom os vs) .sides)) 0 (zipRun s 0 (
 
 unfoldable pub zipV : List ℕ → List ℕ → List ℕ → List ℕ
 zipV s os vs = zipRun s 0 (zipFrom os vs) .vs
+
+-- the first pass is done
+pub record Zipped (s os vs os′ vs′ : List ℕ) : Type 0 where
+  pub neighbours : os′ ≡ zipO s os vs
+  pub records : vs′ ≡ zipV s os vs
