@@ -3,7 +3,8 @@
 --   mix i          that table
 --   step-mix       one step with the right tip and the right ends fills one more triangle
 --   after-mix ..   a read through a facing corner that is filled already
---   Ends k         the ends of triangle k are read right; `ends-link`: so they are behind a join with an earlier triangle
+--   Ends k         the ends of triangle k are read right
+--   ends-link      so they are where its tip corner is joined to an earlier triangle
 use mathlib.Core.List.{List, _++_, append-nil}
 use mathlib.Core.Path.{_∙_, _≡_, ap, refl, sym}
 use Prim.Native.Nat.{_*_, _+_, _<_, _≤_, suc, ℕ}
@@ -13,17 +14,13 @@ use lib.Ieee.{round}
 use lib.ListN.{List·getD-append, drop, drop-of-length-le, getD, length, set, take}
 use lib.Seq.{append-snoc, drop-cons, getD-at, getD-take, length-take-le, set-at, take-length, take-suc}
 use borrow.Author.Tests.{ne-eqb}
-use Rattle.tables.specs.Fill.{afterFacing, beforeFacing, fillRun, fillStep, leftEnd, rightEnd, row, tip}
+use Rattle.tables.specs.Fill.{afterFacing, beforeFacing, fillStep, leftEnd, rightEnd, row, tip}
 use Rattle.theory.proofs.CornerLaws.{next-low, next-tip, previous-low, previous-tip}
-use Rattle.theory.proofs.Each.{EachN, eachN-map}
 use Rattle.theory.proofs.JoinLaws.{Join}
 use Rattle.theory.proofs.JoinedTables.{join-entry}
 use Rattle.theory.proofs.Rows.{Agree}
 use Rattle.theory.specs.Corner.{next, opposite, previous, vertex}
 use Rattle.theory.specs.declared.Letter.{Letter}
-
-pub later : (k j : ℕ) (xs : List ℕ) → k ≤ j → EachN (λ y. y < 3 * k) xs → EachN (λ y. y < 3 * j) xs
-later k j xs m h = eachN-map (λ y. y < 3 * k) (λ y. y < 3 * j) (λ y a. omega arith) xs h
 
 module _ (vt vs₀ ot : List ℕ) (same : length vs₀ ≡ length vt) where
   unfoldable pub mix : ℕ → List ℕ
@@ -61,15 +58,17 @@ module _ (vt vs₀ ot : List ℕ) (same : length vs₀ ≡ length vt) where
   row-mix k h =
       let a : 3 * k + 1 + 1 ≡ 3 * k + 2 = omega arith in
       let b : 3 * k + 2 + 1 ≡ 3 * (k + 1) = omega arith in
-      ap (λ (y : List ℕ). set (set y (3 * k + 1) (vertex vt (3 * k + 1))) (3 * k + 2) (vertex vt (3 * k + 2))) (mix-set (3 * k) (omega arith))
-      ∙ ap (λ (y : List ℕ). set y (3 * k + 2) (vertex vt (3 * k + 2))) (mix-set (3 * k + 1) (omega arith) ∙ ap mix a)
+      let l = vertex vt (3 * k + 1) in
+      let r = vertex vt (3 * k + 2) in
+      ap (λ (y : List ℕ). set (set y (3 * k + 1) l) (3 * k + 2) r) (mix-set (3 * k) (omega arith))
+      ∙ ap (λ (y : List ℕ). set y (3 * k + 2) r) (mix-set (3 * k + 1) (omega arith) ∙ ap mix a)
       ∙ mix-set (3 * k + 2) (omega arith) ∙ ap mix b
 
   abbrev pub Ends : ℕ → Type 0
   Ends k = (leftEnd k ot (mix (3 * k)) ≡ vertex vt (3 * k + 1)) × (rightEnd k ot (mix (3 * k)) ≡ vertex vt (3 * k + 2))
 
-  pub step-mix : (a : Letter) (k nv : ℕ) → tip a k nv ot (mix (3 * k)) ≡ vertex vt (3 * k) → Ends k → 3 * (k + 1) ≤ length vt
-      → fillStep a k nv ot (mix (3 * k)) ≡ mix (3 * (k + 1))
+  pub step-mix : (a : Letter) (k nv : ℕ) → tip a k nv ot (mix (3 * k)) ≡ vertex vt (3 * k) → Ends k
+      → 3 * (k + 1) ≤ length vt → fillStep a k nv ot (mix (3 * k)) ≡ mix (3 * (k + 1))
   unfolding fillStep
   step-mix a k nv t i h = rw (t, i .0, i .1) (row-mix k h)
 
@@ -82,7 +81,8 @@ module _ (vt vs₀ ot : List ℕ) (same : length vs₀ ≡ length vt) where
     unfolding beforeFacing
     before-mix = rw (join-entry ot x y j) (mix-low (3 * k) (previous y) (previous-low k y h) m)
 
-  pub ends-link : (a j : ℕ) → a < 3 * j → 3 * j ≤ length vt → Join (opposite ot) a (3 * j) → Agree (vertex vt) a (3 * j) → Ends j
+  pub ends-link : (a j : ℕ) → a < 3 * j → 3 * j ≤ length vt → Join (opposite ot) a (3 * j)
+      → Agree (vertex vt) a (3 * j) → Ends j
   unfolding leftEnd rightEnd
   ends-link a j h m o g =
       let round : Join (opposite ot) (3 * j) a = (o .1, o .0, λ q. o .2 (sym q)) in
@@ -90,6 +90,3 @@ module _ (vt vs₀ ot : List ℕ) (same : length vs₀ ≡ length vt) where
         before-mix j (3 * j) a round h m ∙ rw next-tip at (g .1),
         after-mix j (3 * j) a round h m ∙ rw previous-tip at (g .0),
       )
-
-  pub mixed : (s : List ℕ) (k k′ n n′ : ℕ) → k ≡ k′ → n ≡ n′ → fillRun s k n ot (mix (3 * k)) ≡ fillRun s k′ n′ ot (mix (3 * k′))
-  mixed s k k′ n n′ p q = rw (p, q) refl

@@ -31,7 +31,8 @@ module _ (os vs : List ℕ) (c x y z : ℕ) (e : x ≡ getD os c 0) (g : z ≡ g
 pub tip-letter : {x : ℕ} (k n : ℕ) (os vs : List ℕ) (a b : Letter) → a ≡ b → x ≡ tip a k n os vs → x ≡ tip b k n os vs
 tip-letter k n os vs a b e h = rw (← e) h
 
-pub tip-recorded : (k x y : ℕ) (os vs : List ℕ) → y ≡ getD vs (3 * k) 0 → x ≡ afterFacing os vs y → x ≡ afterFacing os vs (getD vs (3 * k) 0)
+pub tip-recorded : (k x y : ℕ) (os vs : List ℕ) → y ≡ getD vs (3 * k) 0 → x ≡ afterFacing os vs y
+    → x ≡ afterFacing os vs (getD vs (3 * k) 0)
 tip-recorded k x y os vs e h = rw (← e) h
 
 pub fresh-letter : {x : ℕ} (n : ℕ) (a b : Letter) → a ≡ b → x ≡ fresh a n → x ≡ fresh b n
@@ -78,8 +79,8 @@ pub filling-start : (s os vs : List ℕ) → Filling s os vs vs 2 0
 filling-start s os vs = record { at = omega arith; few = omega arith; len = refl; same = refl }
 
 module _ (s os vs₀ vs : List ℕ) (n k : ℕ) (inv : Filling s os vs₀ vs n k) where
-  pub filling-turn : k < length s → (vs′ : List ℕ) (n′ : ℕ) → length vs′ ≡ length vs → vs′ ≡ fillStep (letter (getD s k 0)) k n os vs
-      → n′ ≡ fresh (letter (getD s k 0)) n → Filling s os vs₀ vs′ n′ (k + 1)
+  pub filling-turn : k < length s → (vs′ : List ℕ) (n′ : ℕ) → length vs′ ≡ length vs
+      → vs′ ≡ fillStep (letter (getD s k 0)) k n os vs → n′ ≡ fresh (letter (getD s k 0)) n → Filling s os vs₀ vs′ n′ (k + 1)
   unfolding fillRun
   filling-turn h vs′ n′ l e f =
       let a = letter (getD s k 0) in

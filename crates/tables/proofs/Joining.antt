@@ -9,7 +9,7 @@ use Prim.Native.Nat.{_*_, _+_, _/_, _≤_, suc, ℕ}
 use native.Mathlib.Omega.{arith}
 use lib.ListN.{length, set}
 use Rattle.tables.proofs.Turning.{kind-C, kind-L, kind-S, unwind-C, unwind-L, unwind-S}
-use Rattle.tables.specs.Zip.{unwind, waits, zipRun, zipStep}
+use Rattle.tables.specs.Zip.{Zip, unwind, waits, zipRun, zipStep}
 use Rattle.theory.proofs.JoinedTables.{joined-append}
 use Rattle.theory.proofs.ListLaws.{snoc-view}
 use Rattle.theory.proofs.Opens.{length-opens, opens}
@@ -34,7 +34,8 @@ piled-last bs p h = ap (λ (l : List ℕ). piled l p) (snoc-view bs h) ∙ piled
 
 unfoldable pub zipJoins : ℕ → Word → List Pair
 zipJoins k wE = []
-zipJoins k (wC w) = ((3 * k + 1) ⇌ (3 * (k + 1))) ∷ (zipJoins (k + 1) w ++ ((back (opens (k + 1) w) ⇌ (3 * k + 2)) ∷ []))
+zipJoins k (wC w) =
+    ((3 * k + 1) ⇌ (3 * (k + 1))) ∷ (zipJoins (k + 1) w ++ ((back (opens (k + 1) w) ⇌ (3 * k + 2)) ∷ []))
 zipJoins k (wL w) = ((3 * k + 1) ⇌ (3 * (k + 1))) ∷ zipJoins (k + 1) w
 zipJoins k (wR w) = ((3 * k + 2) ⇌ (3 * (k + 1))) ∷ zipJoins (k + 1) w
 zipJoins k (wS a b) =
@@ -51,6 +52,10 @@ noted k (wS a b) vs = noted (k + 1 + size a) b (set (noted (k + 1) a vs) (3 * k)
 -- ---- a waiting side of triangle k is met
 
 module _ (m k : ℕ) (q p os vs : List ℕ) where
+  -- the side y of an S in triangle j is met
+  abbrev met : ℕ → ℕ → Zip
+  met y j = record { waiting = q; sides = p; os = joinAt y (3 * m) os; vs = set vs (3 * j) (head p) }
+
   meet-L : unwind m ((3 * (3 * k + 2)) ∷ q) p os vs ≡ unwind m q ((3 * k + 2) ∷ p) os vs
   meet-L =
       let x = 3 * (3 * k + 2) in
@@ -63,18 +68,17 @@ module _ (m k : ℕ) (q p os vs : List ℕ) where
       let d : x / 3 ≡ 3 * k + 2 = omega arith in
       unwind-C m x q p os vs (kind-C x (omega arith)) ∙ ap (λ (y : ℕ). unwind m q (tail p) (joinAt (head p) y os) vs) d
 
-  meet-S : unwind m ((3 * (3 * k + 2) + 2) ∷ q) p os vs
-      ≡ record { waiting = q; sides = p; os = joinAt (3 * k + 2) (3 * m) os; vs = set vs (3 * k) (head p) }
+  meet-S : unwind m ((3 * (3 * k + 2) + 2) ∷ q) p os vs ≡ met (3 * k + 2) k
   meet-S =
       let x = 3 * (3 * k + 2) + 2 in
       let d : x / 3 ≡ 3 * k + 2 = omega arith in
       let f : x / 9 ≡ k = omega arith in
       unwind-S m x q p os vs (kind-S x (λ z. omega arith) (λ z. omega arith))
-      ∙ ap (λ (y : ℕ). record { waiting = q; sides = p; os = joinAt y (3 * m) os; vs = set vs (3 * (x / 9)) (head p) }) d
-      ∙ ap (λ (y : ℕ). record { waiting = q; sides = p; os = joinAt (3 * k + 2) (3 * m) os; vs = set vs (3 * y) (head p) }) f
+      ∙ ap (λ (y : ℕ). met y (x / 9)) d ∙ ap (met (3 * k + 2)) f
 
 popped : (m d : ℕ) (js : List Pair) (q p : List ℕ) (b : ℕ) (os vs : List ℕ)
-    → unwind m q (tail (b ∷ p)) (joinAt (head (b ∷ p)) d (joined js os)) vs ≡ unwind m q p (joined (js ++ ((b ⇌ d) ∷ [])) os) vs
+    → unwind m q (tail (b ∷ p)) (joinAt (head (b ∷ p)) d (joined js os)) vs
+    ≡ unwind m q p (joined (js ++ ((b ⇌ d) ∷ [])) os) vs
 unfolding tail head joined
 popped m d js q p b os vs = ap (λ (l : List ℕ). unwind m q p l vs) (sym (joined-append js ((b ⇌ d) ∷ []) os))
 
@@ -100,11 +104,13 @@ run (wC w) h s k q p os vs =
     let os₁ = joinAt (3 * k + 1) (3 * (k + 1)) os in
     let made = joined (zipJoins (k + 1) w) os₁ in
     let m = k + 1 + size w in
+    let vs₁ = noted (k + 1) w vs in
+    let top = piled-last bs p (omega arith) in
     run w (h .0) s (k + 1) ((3 * (3 * k + 2) + 1) ∷ q) p os₁ vs
     ∙ ap (zipRun s m) (
-    meet-C m k q (piled bs p) made (noted (k + 1) w vs)
-    ∙ ap (λ (l : List ℕ). unwind m q (tail l) (joinAt (head l) (3 * k + 2) made) (noted (k + 1) w vs)) (piled-last bs p (omega arith))
-    ∙ popped m (3 * k + 2) (zipJoins (k + 1) w) q (piled (front bs) p) (back bs) os₁ (noted (k + 1) w vs))
+    meet-C m k q (piled bs p) made vs₁
+    ∙ ap (λ (l : List ℕ). unwind m q (tail l) (joinAt (head l) (3 * k + 2) made) vs₁) top
+    ∙ popped m (3 * k + 2) (zipJoins (k + 1) w) q (piled (front bs) p) (back bs) os₁ vs₁)
     ∙ rw past refl
 run (wL w) h s k q p os vs =
     let os₁ = joinAt (3 * k + 1) (3 * (k + 1)) os in
@@ -124,12 +130,16 @@ run (wS a b) h s k q p os vs =
     let va = noted (k + 1) a vs in
     let ob = joinAt (3 * k + 2) (3 * m) oa in
     let vb = set va (3 * k) (back bs) in
-    ap (λ (l : List ℕ). zipRun l (k + 1) (record { waiting = (3 * (3 * k + 2) + 2) ∷ q; sides = p; os = os₁; vs = vs })) (append-assoc (spell a) (spell b) s)
-    ∙ run a (h .0) (spell b ++ s) (k + 1) ((3 * (3 * k + 2) + 2) ∷ q) p os₁ vs
+    let q₁ = (3 * (3 * k + 2) + 2) ∷ q in
+    let top = top-is (piled-last bs p (omega arith)) in
+    let end = m + size b in
+    ap (λ (l : List ℕ). zipRun l (k + 1) (record { waiting = q₁; sides = p; os = os₁; vs = vs }))
+    (append-assoc (spell a) (spell b) s)
+    ∙ run a (h .0) (spell b ++ s) (k + 1) q₁ p os₁ vs
     ∙ ap (zipRun (spell b ++ s) m) (
     meet-S m k q (piled bs p) oa va
-    ∙ ap (λ (y : ℕ). record { waiting = q; sides = piled bs p; os = ob; vs = set va (3 * k) y }) (top-is (piled-last bs p (omega arith))))
+    ∙ ap (λ (y : ℕ). record { waiting = q; sides = piled bs p; os = ob; vs = set va (3 * k) y }) top)
     ∙ run b (h .1) s m q (piled bs p) ob vb
-    ∙ ap (λ (l : List ℕ). zipRun s (m + size b) (unwind (m + size b) q (piled (opens m b) (piled bs p)) l (noted m b vb)))
+    ∙ ap (λ (l : List ℕ). zipRun s end (unwind end q (piled (opens m b) (piled bs p)) l (noted m b vb)))
     (sym (joined-append (zipJoins (k + 1) a) (((3 * k + 2) ⇌ (3 * m)) ∷ zipJoins m b) os₁))
     ∙ rw (piled-append, past-both) refl

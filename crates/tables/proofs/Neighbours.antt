@@ -14,11 +14,13 @@ use Rattle.tables.specs.Zip.{Zip, unwind, zipFrom, zipO, zipRun, zipV}
 use Rattle.theory.proofs.Chain.{Each, each-append, each-left, each-right}
 use Rattle.theory.proofs.Counting.{count, tris, tris-in}
 use Rattle.theory.proofs.JoinLaws.{Both, Join, ends-root, length-joined, up}
-use Rattle.theory.proofs.JoinedTables.{joined-all, joined-append, length-tableO, settled, table-joins}
+use Rattle.theory.proofs.JoinedTables.{joined-all, joined-append, settled}
 use Rattle.theory.proofs.ListLaws.{entry-any}
 use Rattle.theory.proofs.Opens.{count-ends, cover, ends, length-opens, mates, opens}
+use Rattle.theory.proofs.WordTables.{held, length-o}
 use Rattle.theory.specs.Corner.{opposite}
 use Rattle.theory.specs.Lists.{back, head}
+use Rattle.theory.specs.Mesh.{here}
 use Rattle.theory.specs.Tables.{_⇌_, joinAt, joined, joins, links, tableO, zips}
 use Rattle.theory.specs.Word.{Sound, Word, size, spell, wC, wE, wL, wR, wS, width}
 
@@ -40,7 +42,8 @@ order-each P k (wS a b) h =
       each-append P (mates (k + 1) a) (mates (k + 1 + size a) b) (i .1) (j .1),
     )
 
-order-ends : (x k : ℕ) (w : Word) → count x (ends (zipJoins k w)) ≡ count x (ends (links k w)) + count x (ends (mates k w))
+order-ends : (x k : ℕ) (w : Word)
+    → count x (ends (zipJoins k w)) ≡ count x (ends (links k w)) + count x (ends (mates k w))
 unfolding zipJoins links mates ends count
 order-ends x k wE = refl
 order-ends x k (wC w) =
@@ -74,7 +77,8 @@ module _ (w : Word) (sound : Sound w) (two : width w ≡ 2) where
       let q = ap (count x) (alone (opens 0 w) (omega arith)) in
       omega arith
 
-  same-table : (os : List ℕ) → length os ≡ 3 * size w → joined (zipJoins 0 w ++ ((back (opens 0 w) ⇌ 0) ∷ [])) os ≡ tableO w
+  same-table : (os : List ℕ) → length os ≡ 3 * size w
+      → joined (zipJoins 0 w ++ ((back (opens 0 w) ⇌ 0) ∷ [])) os ≡ tableO w
   unfolding joins
   same-table os n =
       let js = (back (opens 0 w) ⇌ 0) ∷ [] in
@@ -86,16 +90,18 @@ module _ (w : Word) (sound : Sound w) (two : width w ≡ 2) where
       let lo = length-opens 0 w sound in
       let b = subst (λ (bs : List ℕ). Both J bs (0 ∷ [])) (sym (alone (opens 0 w) (omega arith))) (z .0, tt) in
       let u = up J 0 w (0 ∷ []) sound (omega arith) (i .1) b in
-      let held : Each J (joins w) = each-append J (links 0 w) (zips 0 w (0 ∷ [])) (i .0) u in
+      let here : Each J (joins w) = each-append J (links 0 w) (zips 0 w (0 ∷ [])) (i .0) u in
+      let there = held w sound two in
       let lm : length made ≡ 3 * size w = length-joined (zipJoins 0 w ++ js) os ∙ n in
-      let lt = length-tableO w in
+      let lt = length-o w in
       ext-getD 0 made (tableO w) (lm ∙ sym lt) (λ x m.
       let a = ends-root x w sound two in
       let e = tris-in x (size w) 0 (omega arith) (omega arith) in
-      entry-any made x 0 x m ∙ settled (joins w) made (tableO w) x held (table-joins w sound two) (omega arith) ∙ entry-any (tableO w) x x 0 (omega arith))
+      let same = settled (joins w) made (tableO w) x here there (omega arith) in
+      entry-any made x 0 x m ∙ same ∙ entry-any (tableO w) x x 0 (omega arith))
 
-  end-state : (os vs : List ℕ)
-      → zipRun (spell w) 0 (zipFrom os vs) ≡ record { waiting = []; sides = piled (opens 0 w) []; os = joined (zipJoins 0 w) os; vs = noted 0 w vs }
+  end-state : (os vs : List ℕ) → zipRun (spell w) 0 (zipFrom os vs)
+      ≡ record { waiting = []; sides = piled (opens 0 w) []; os = joined (zipJoins 0 w) os; vs = noted 0 w vs }
   unfolding zipRun unwind
   end-state os vs =
       ap (λ (l : List ℕ). zipRun l 0 (zipFrom os vs)) (sym (append-nil (spell w))) ∙ run w sound [] 0 [] [] os vs

@@ -21,7 +21,8 @@ module _ (vs : List ℕ) where
   Noted k (wR w) = Noted (k + 1) w
   Noted k (wS a b) = (getD vs (3 * k) 0 ≡ back (opens (k + 1) a)) × Noted (k + 1) a × Noted (k + 1 + size a) b
 
-noted-same : (vs vs′ : List ℕ) (k : ℕ) (w : Word) → ((i : ℕ) → 3 * k ≤ i → i < 3 * (k + size w) → getD vs′ i 0 ≡ getD vs i 0) → Noted vs k w → Noted vs′ k w
+noted-same : (vs vs′ : List ℕ) (k : ℕ) (w : Word)
+    → ((i : ℕ) → 3 * k ≤ i → i < 3 * (k + size w) → getD vs′ i 0 ≡ getD vs i 0) → Noted vs k w → Noted vs′ k w
 unfolding size
 noted-same vs vs′ k wE f h = tt
 noted-same vs vs′ k (wC w) f h = noted-same vs vs′ (k + 1) w (λ i a b. f i (omega arith) (omega arith)) h
@@ -51,7 +52,8 @@ noted-low k (wL w) vs i h = noted-low (k + 1) w vs i (omega arith)
 noted-low k (wR w) vs i h = noted-low (k + 1) w vs i (omega arith)
 noted-low k (wS a b) vs i h =
     noted-low (k + 1 + size a) b (set (noted (k + 1) a vs) (3 * k) (back (opens (k + 1) a))) i (omega arith)
-    ∙ getD-set-other (noted (k + 1) a vs) (3 * k) i (back (opens (k + 1) a)) 0 (λ q. omega arith) ∙ noted-low (k + 1) a vs i (omega arith)
+    ∙ getD-set-other (noted (k + 1) a vs) (3 * k) i (back (opens (k + 1) a)) 0 (λ q. omega arith)
+    ∙ noted-low (k + 1) a vs i (omega arith)
 
 pub noted-holds : (k : ℕ) (w : Word) (vs : List ℕ) → 3 * (k + size w) ≤ length vs → Noted (noted k w vs) k w
 unfolding noted size
@@ -65,8 +67,10 @@ noted-holds k (wS a b) vs h =
     let vb = set va (3 * k) x in
     let m = k + 1 + size a in
     let n₁ = length-noted (k + 1) a vs in
-    let n₂ = length-set va (3 * k) x in (
+    let n₂ = length-set va (3 * k) x in
+    let kept : (i : ℕ) → 3 * (k + 1) ≤ i → i < 3 * m → getD (noted m b vb) i 0 ≡ getD va i 0 =
+    λ i l n. noted-low m b vb i (omega arith) ∙ getD-set-other va (3 * k) i x 0 (λ q. omega arith) in (
       noted-low m b vb (3 * k) (omega arith) ∙ getD-set-same va (3 * k) x 0 (omega arith),
-      noted-same va (noted m b vb) (k + 1) a (λ i l n. noted-low m b vb i (omega arith) ∙ getD-set-other va (3 * k) i x 0 (λ q. omega arith)) (noted-holds (k + 1) a vs (omega arith)),
+      noted-same va (noted m b vb) (k + 1) a kept (noted-holds (k + 1) a vs (omega arith)),
       noted-holds m b vb (omega arith),
     )

@@ -25,12 +25,13 @@ module _ (t k q p : ℕ) (work os vs : List ℕ) (room : Room t k q p work) wher
   waited x q′ work′ e f =
       let n = length-take-le t work (omega (arith, room .within, room .high)) in
       let pushed = push-set (take t work) q x (room .some) (rw n (room .at)) in (
-        ap (λ (l : List ℕ). drop q′ (take t l)) f ∙ rw (e, take-set-lt t work (q - 1) x (omega (arith, room .some, room .at))) pushed,
+        ap (λ (l : List ℕ). drop q′ (take t l)) f
+            ∙ rw (e, take-set-lt t work (q - 1) x (omega (arith, room .some, room .at))) pushed,
         ap (drop p) f ∙ drop-set-lt p work (q - 1) x (omega (arith, room .at, room .high, room .some)),
       )
 
-  pub stands-wait : (x q′ : ℕ) (work′ os′ : List ℕ) → q′ ≡ q - 1 → work′ ≡ set work (q - 1) x → os′ ≡ joinAt (3 * k + 1) (3 * (k + 1)) os
-      → Stands t q′ p work′ os′ vs (waits x k (zipIn t work os vs q p))
+  pub stands-wait : (x q′ : ℕ) (work′ os′ : List ℕ) → q′ ≡ q - 1 → work′ ≡ set work (q - 1) x
+      → os′ ≡ joinAt (3 * k + 1) (3 * (k + 1)) os → Stands t q′ p work′ os′ vs (waits x k (zipIn t work os vs q p))
   unfolding zipIn waits
   stands-wait x q′ work′ os′ e f g =
       let w = waited x q′ work′ e f in
@@ -62,13 +63,16 @@ module _ (t k q p : ℕ) (work os vs : List ℕ) (room : Room t k q p work) wher
 
   pub stands-end : (p₁ p₂ : ℕ) (work₁ work₂ : List ℕ) → p₁ ≡ p - 1 → work₁ ≡ set work (p - 1) (3 * k + 1) → p₂ ≡ p₁ - 1
       → work₂ ≡ set work₁ (p₁ - 1) (3 * k + 2)
-      → (q′ p′ : ℕ) (work′ os′ vs′ : List ℕ) → Stands t q′ p′ work′ os′ vs′ (unwind (k + 1) (drop q (take t work₂)) (drop p₂ work₂) os vs)
+      → (q′ p′ : ℕ) (work′ os′ vs′ : List ℕ)
+      → Stands t q′ p′ work′ os′ vs′ (unwind (k + 1) (drop q (take t work₂)) (drop p₂ work₂) os vs)
       → Stands t q′ p′ work′ os′ vs′ (zipStep E k (zipIn t work os vs q p))
   unfolding zipIn zipStep
   stands-end p₁ p₂ work₁ work₂ e₁ f₁ e₂ f₂ q′ p′ work′ os′ vs′ h =
       let w = pushed (3 * k + 1) p₁ work₁ e₁ f₁ in
-      let a : take t work₂ ≡ take t work = ap (take t) f₂ ∙ take-set-le t work₁ (p₁ - 1) (3 * k + 2) (omega (arith, room .high)) ∙ w .0 in
-      let b : drop p₂ work₂ ≡ (3 * k + 2) ∷ drop p₁ work₁ = rw (e₂, f₂) (push-set work₁ p₁ (3 * k + 2) (omega (arith, room .high)) (omega (arith, room .within, w .2))) in
+      let kept = take-set-le t work₁ (p₁ - 1) (3 * k + 2) (omega (arith, room .high)) in
+      let two = push-set work₁ p₁ (3 * k + 2) (omega (arith, room .high)) (omega (arith, room .within, w .2)) in
+      let a : take t work₂ ≡ take t work = ap (take t) f₂ ∙ kept ∙ w .0 in
+      let b : drop p₂ work₂ ≡ (3 * k + 2) ∷ drop p₁ work₁ = rw (e₂, f₂) two in
       rw (a, b, w .1) at h
 
 pub stands-letter : {t q p : ℕ} {work os vs : List ℕ} (k : ℕ) (z : Zip) (a b : Letter) → a ≡ b

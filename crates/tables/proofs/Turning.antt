@@ -14,7 +14,7 @@ use lib.ListN.{drop, length, length-set, set, take}
 use lib.Seq.{take-set-le}
 use borrow.Author.Tests.{ne-eqb}
 use Rattle.lent.proofs.Stacks.{push-set}
-use Rattle.tables.specs.Standing.{Turned, onward}
+use Rattle.tables.specs.Standing.{Turned, goesOn}
 use Rattle.tables.specs.Zip.{kind, onC, onL, onS, unwind}
 use Rattle.theory.specs.Lists.{head, tail}
 use Rattle.theory.specs.Tables.{joinAt}
@@ -44,27 +44,28 @@ module _ (k x : ℕ) (q p os vs : List ℕ) where
   unfolding unwind
   unwind-C e = rw (unwind, e) refl
 
-  pub unwind-S : kind x ≡ onS
-      → unwind k (x ∷ q) p os vs ≡ record { waiting = q; sides = p; os = joinAt (x / 3) (3 * k) os; vs = set vs (3 * (x / 9)) (head p) }
+  pub unwind-S : kind x ≡ onS → unwind k (x ∷ q) p os vs
+      ≡ record { waiting = q; sides = p; os = joinAt (x / 3) (3 * k) os; vs = set vs (3 * (x / 9)) (head p) }
   unfolding unwind
   unwind-S e = rw (unwind, e) refl
 
 module _ (t k x p : ℕ) (work os vs : List ℕ) (above : t < p) (within : p ≤ length work) where
   pub turned-L : (work′ : List ℕ) (p′ : ℕ) → x % 3 ≡ 0 → p′ ≡ p - 1 → work′ ≡ set work (p - 1) (x / 3)
       → Turned t k x p work os vs p′ true work′ os vs
-  unfolding onward
+  unfolding goesOn
   turned-L work′ p′ e f g =
       let pushed : drop p′ work′ ≡ (x / 3) ∷ drop p work = rw (f, g) (push-set work p (x / 3) (omega arith) within) in
       record {
         low = omega arith;
         within = omega (arith, ap length g, length-set work (p - 1) (x / 3));
         same = ap (take t) g ∙ take-set-le t work (p - 1) (x / 3) (omega arith);
-        step = λ q. unwind-L k x q (drop p work) os vs (kind-L x e) ∙ ap (λ (l : List ℕ). unwind k q l os vs) (sym pushed);
+        step = λ q.
+            unwind-L k x q (drop p work) os vs (kind-L x e) ∙ ap (λ (l : List ℕ). unwind k q l os vs) (sym pushed);
       }
 
-  pub turned-C : (b : ℕ) (os′ : List ℕ) (p′ : ℕ) → x % 3 ≡ 1 → b ≡ head (drop p work) → os′ ≡ joinAt b (x / 3) os → p ≤ p′
-      → p′ ≤ length work → drop p′ work ≡ tail (drop p work) → Turned t k x p work os vs p′ true work os′ vs
-  unfolding onward
+  pub turned-C : (b : ℕ) (os′ : List ℕ) (p′ : ℕ) → x % 3 ≡ 1 → b ≡ head (drop p work)
+      → os′ ≡ joinAt b (x / 3) os → p ≤ p′ → p′ ≤ length work → drop p′ work ≡ tail (drop p work) → Turned t k x p work os vs p′ true work os′ vs
+  unfolding goesOn
   turned-C b os′ p′ e eb eo lo hi d =
       record {
         low = omega arith;
@@ -75,7 +76,7 @@ module _ (t k x p : ℕ) (work os vs : List ℕ) (above : t < p) (within : p ≤
 
   pub turned-S : (b : ℕ) (os′ vs′ : List ℕ) → (x % 3 ≡ 0 → ⊥) → (x % 3 ≡ 1 → ⊥) → b ≡ head (drop p work)
       → os′ ≡ joinAt (x / 3) (3 * k) os → vs′ ≡ set vs (3 * (x / 9)) b → Turned t k x p work os vs p false work os′ vs′
-  unfolding onward
+  unfolding goesOn
   turned-S b os′ vs′ e f eb eo ev =
       record {
         low = omega arith;

@@ -11,7 +11,7 @@ use lib.ListN.{drop, drop-of-length-le, getD, length, length-drop, take}
 use lib.Seq.{drop-cons, drop-length, length-take-le}
 use Rattle.tables.proofs.Turning.{unwind-C, unwind-L, unwind-S}
 use Rattle.tables.specs.Standing.{Room, Stands, zipIn}
-use Rattle.tables.specs.Zip.{Kind, Zip, Zipped, kind, onC, onL, onS, unwind, waits, zipFrom, zipO, zipRun, zipStep, zipV}
+use Rattle.tables.specs.Zip.{Kind, Zip, ZipDone, kind, onC, onL, onS, unwind, waits, zipFrom, zipO, zipRun, zipStep, zipV}
 use Rattle.theory.specs.Letter.{letter}
 use Rattle.theory.specs.Lists.{head, some, tail}
 use Rattle.theory.specs.Tables.{joinAt}
@@ -41,7 +41,8 @@ unwind-length k (x ∷ q) p os vs = go (kind x) refl (λ p os vs. unwind-length 
         rw (unwind-C k x q p os vs e) (omega arith, omega arith)
     go onS e ih = rw (unwind-S k x q p os vs e) (omega arith, omega arith)
 
-step-length : (a : Letter) (k : ℕ) (z : Zip) → Grown (length (z .waiting) + 1) (length (z .waiting) + length (z .sides) + 2) (zipStep a k z)
+step-length : (a : Letter) (k : ℕ) (z : Zip)
+    → Grown (length (z .waiting) + 1) (length (z .waiting) + length (z .sides) + 2) (zipStep a k z)
 unfolding zipStep waits
 step-length C k z = (omega arith, omega arith)
 step-length L k z = (omega arith, omega arith)
@@ -62,11 +63,13 @@ pub record Zipping (s work₀ os₀ vs₀ work os vs : List ℕ) (q p k : ℕ) :
   pub len-vs : length vs ≡ length vs₀
   pub same : zipRun s 0 (zipFrom os₀ vs₀) ≡ zipRun (drop k s) k (zipIn (length s) work os vs q p)
 
-pub zipping-start : (s work os vs : List ℕ) → length s ≤ length work → Zipping s work os vs work os vs (length s) (length work) 0
+pub zipping-start : (s work os vs : List ℕ) → length s ≤ length work
+    → Zipping s work os vs work os vs (length s) (length work) 0
 unfolding zipIn
 zipping-start s work os vs h =
     let n = length-take-le (length s) work h in
-    let a : drop (length s) (take (length s) work) ≡ [] = drop-of-length-le (take (length s) work) {i = length s} (omega arith) in
+    let a : drop (length s) (take (length s) work) ≡ [] =
+    drop-of-length-le (take (length s) work) {i = length s} (omega arith) in
     record {
       at = omega arith;
       top = omega arith;
@@ -79,7 +82,8 @@ zipping-start s work os vs h =
       same = rw (a, drop-length work) refl;
     }
 
-module _ (s work₀ os₀ vs₀ work os vs : List ℕ) (q p k : ℕ) (inv : Zipping s work₀ os₀ vs₀ work os vs q p k) (fits : 12 * length s ≤ length work₀) where
+module _ (s work₀ os₀ vs₀ work os vs : List ℕ) (q p k : ℕ) (inv : Zipping s work₀ os₀ vs₀ work os vs q p k)
+    (fits : 12 * length s ≤ length work₀) where
   pub zipping-room : length s ≤ 65536 → k < length s → Room (length s) k q p work
   zipping-room b h =
       record {
@@ -90,7 +94,8 @@ module _ (s work₀ os₀ vs₀ work os vs : List ℕ) (q p k : ℕ) (inv : Zipp
         within = inv .within;
       }
 
-  pub zipping-turn : k < length s → (q′ p′ : ℕ) (work′ os′ vs′ : List ℕ) → length work′ ≡ length work → length os′ ≡ length os → length vs′ ≡ length vs
+  pub zipping-turn : k < length s → (q′ p′ : ℕ) (work′ os′ vs′ : List ℕ)
+      → length work′ ≡ length work → length os′ ≡ length os → length vs′ ≡ length vs
       → Stands (length s) q′ p′ work′ os′ vs′ (zipStep (letter (getD s k 0)) k (zipIn (length s) work os vs q p))
       → Zipping s work₀ os₀ vs₀ work′ os′ vs′ q′ p′ (k + 1)
   unfolding zipRun zipIn
@@ -121,10 +126,11 @@ module _ (s work₀ os₀ vs₀ work os vs : List ℕ) (q p k : ℕ) (inv : Zipp
       }
 
   pub zipping-end : length s ≤ k → (b : ℕ) (os′ : List ℕ) → b ≡ head (drop p work) → os′ ≡ joinAt b 0 os
-      → Zipped s os₀ vs₀ os′ vs
+      → ZipDone s os₀ vs₀ os′ vs
   unfolding zipO zipV zipRun zipIn
   zipping-end h b os′ e f =
-      let z : zipRun s 0 (zipFrom os₀ vs₀) ≡ zipIn (length s) work os vs q p = inv .same ∙ rw (drop-of-length-le s {i = k} h) refl in
+      let z : zipRun s 0 (zipFrom os₀ vs₀) ≡ zipIn (length s) work os vs q p =
+      inv .same ∙ rw (drop-of-length-le s {i = k} h) refl in
       record {
         neighbours = f ∙ ap (λ (x : ℕ). joinAt x 0 os) e ∙ sym (ap (λ (y : Zip). joinAt (head (y .sides)) 0 (y .os)) z);
         records = sym (ap (λ (y : Zip). y .vs) z);

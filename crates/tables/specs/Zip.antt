@@ -44,14 +44,20 @@ unwind k (x ∷ q) p os vs =
 
 -- C, L and S: continue at right, the left side waits
 unfoldable pub waits : ℕ → ℕ → Zip → Zip
-waits x k z = record { waiting = x ∷ z .waiting; sides = z .sides; os = joinAt (3 * k + 1) (3 * (k + 1)) (z .os); vs = z .vs }
+waits x k z =
+    record { waiting = x ∷ z .waiting; sides = z .sides; os = joinAt (3 * k + 1) (3 * (k + 1)) (z .os); vs = z .vs }
 
 unfoldable pub zipStep : Letter → ℕ → Zip → Zip
 zipStep C k z = waits (3 * (3 * k + 2) + 1) k z
 zipStep L k z = waits (3 * (3 * k + 2)) k z
 zipStep E k z = unwind (k + 1) (z .waiting) ((3 * k + 2) ∷ ((3 * k + 1) ∷ z .sides)) (z .os) (z .vs)
 zipStep R k z =
-    record { waiting = z .waiting; sides = (3 * k + 1) ∷ z .sides; os = joinAt (3 * k + 2) (3 * (k + 1)) (z .os); vs = z .vs }
+    record {
+      waiting = z .waiting;
+      sides = (3 * k + 1) ∷ z .sides;
+      os = joinAt (3 * k + 2) (3 * (k + 1)) (z .os);
+      vs = z .vs;
+    }
 zipStep S k z = waits (3 * (3 * k + 2) + 2) k z
 
 unfoldable pub zipRun : List ℕ → ℕ → Zip → Zip
@@ -68,6 +74,6 @@ unfoldable pub zipV : List ℕ → List ℕ → List ℕ → List ℕ
 zipV s os vs = zipRun s 0 (zipFrom os vs) .vs
 
 -- the first pass is done
-pub record Zipped (s os vs os′ vs′ : List ℕ) : Type 0 where
+pub record ZipDone (s os vs os′ vs′ : List ℕ) : Type 0 where
   pub neighbours : os′ ≡ zipO s os vs
   pub records : vs′ ≡ zipV s os vs

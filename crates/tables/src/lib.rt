@@ -10,7 +10,7 @@ ghost use Rattle.theory.specs.Letter.{letter};
 ghost use Rattle.theory.specs.declared.Letter.the-variants as Is;
 ghost use Rattle.theory.specs.Tables.{joinAt};
 ghost use Rattle.tables.specs.Built.{Buildable, Built};
-ghost use Rattle.tables.specs.Zip.{unwind, zipStep, Zipped};
+ghost use Rattle.tables.specs.Zip.{unwind, zipStep, ZipDone};
 ghost use Rattle.tables.specs.Standing.{zipIn, Turned, Room, Stands};
 ghost use Rattle.tables.specs.Fill.{afterFacing, beforeFacing, tip, leftEnd, rightEnd, fillStep, fresh, fillRun};
 use corner::next_of;
@@ -170,7 +170,7 @@ fn step(
 // The neighbours of all triangles.
 fn zip(s: &[u8], vs: &mut [u32], os: &mut [u32], work: &mut [u32])
     requires { ⌜ (length (now s) ≤ 65536) × (12 * length (now s) ≤ length (now work)) ⌝ }
-    ensures { λ _. ⌜ Zipped (now (s .entry)) (now (os .entry)) (now (vs .entry)) (now (os .exit)) (now (vs .exit)) ⌝ }
+    ensures { λ _. ⌜ ZipDone (now (s .entry)) (now (os .entry)) (now (vs .entry)) (now (os .exit)) (now (vs .exit)) ⌝ }
 {
     let t = s.len();
     let mut q = t;

@@ -13,6 +13,7 @@ pub mod WordLaws
 pub mod Opens
 pub mod Chain
 pub mod JoinLaws
+pub mod JoinedTables
 pub mod Rows
 pub mod TableRows
 pub mod Loops
@@ -27,6 +28,5 @@ pub mod WordSteps
 pub mod WordTables
 pub mod WordRings
 pub mod ReadMesh
-pub mod JoinedTables
 pub mod CallLaws
 pub mod Marked

@@ -1,6 +1,7 @@
 -- `meet` meets its contract, by the kind of the side that waits.
 use borrow.Author.Needs.{needs}
 use Rattle.tables.proofs.Turning.{turned-C, turned-L, turned-S}
+use Rattle.tables.specs.Zip.{kind}
 use Rattle.tables.proofs.meet.Statement.{statement}
 use Rattle.tables.proofs.meet.Tie as tie
 
@@ -12,9 +13,12 @@ same-length c = search needs
 
 returns : tie.Need-returns
 returns c =
-    let s = c .before .before .before .before .before .before .before .before in
+    let push = c .before .before in
+    let kind = push .before .before in
+    let s = kind .before .before .before .before in
     let a = s .args in
-    turned-L (a .t) (a .k) (a .x) (a .p) (a .work .now) (a .os .now) (a .vs .now) (s .pre .1) (s .pre .2) _ _ (c .before .before .before .before .if1 .taken) (c .before .before .push .ensures .0) (c .before .before .push .ensures .1)
+    turned-L (a .t) (a .k) (a .x) (a .p) (a .work .now) (a .os .now) (a .vs .now) (s .pre .1) (s .pre .2) _ _
+    (kind .if1 .taken) (push .push .ensures .0) (push .push .ensures .1)
 
 top-requires : tie.Need-top-requires
 top-requires c κs = search needs
@@ -33,9 +37,14 @@ same-length-3 c = search needs
 
 returns-2 : tie.Need-returns-2
 returns-2 c =
-    let s = c .before .before .before .before .before .before .before .before .before .before .before .before .before in
+    let join = c .before .before .before .before in
+    let kind = join .before .before in
+    let top = kind .before in
+    let s = top .before .before .before .before .before .before in
     let a = s .args in
-    turned-C (a .t) (a .k) (a .x) (a .p) (a .work .now) (a .os .now) (a .vs .now) (s .pre .1) (s .pre .2) _ _ _ (c .before .before .before .before .before .before .if2 .taken) (c .before .before .before .before .before .before .before .top .ensures) (c .before .before .before .before .join .ensures) (c .under .ensures .0) (c .under .ensures .1) (c .under .ensures .2)
+    turned-C (a .t) (a .k) (a .x) (a .p) (a .work .now) (a .os .now) (a .vs .now) (s .pre .1) (s .pre .2) _ _ _
+    (kind .if2 .taken) (top .top .ensures) (join .join .ensures) (c .under .ensures .0) (c .under .ensures .1)
+    (c .under .ensures .2)
 
 mul-join : tie.Need-mul-join
 mul-join c = search needs
@@ -63,9 +72,14 @@ same-length-6 c = search needs
 
 returns-3 : tie.Need-returns-3
 returns-3 c =
-    let s = c .before .before .before .before .before .before .before .before .before .before .before .before .before .before .before in
+    let put = c .before .before in
+    let join = put .before .before .before .before in
+    let kind = join .before .before in
+    let top = kind .before in
+    let s = top .before .before .before .before .before .before in
     let a = s .args in
-    turned-S (a .t) (a .k) (a .x) (a .p) (a .work .now) (a .os .now) (a .vs .now) (s .pre .1) (s .pre .2) _ _ _ (c .before .before .before .before .before .before .before .before .before .before .before .if1 .left) (c .before .before .before .before .before .before .before .before .if2 .left) (c .before .before .before .before .before .before .before .before .before .top .ensures) (c .before .before .before .before .before .before .join2 .ensures) (c .before .before .put .ensures)
+    turned-S (a .t) (a .k) (a .x) (a .p) (a .work .now) (a .os .now) (a .vs .now) (s .pre .1) (s .pre .2) _ _ _
+    (top .before .before .if1 .left) (kind .if2 .left) (top .top .ensures) (join .join2 .ensures) (put .put .ensures)
 
 pub meet-spec : {M : Type 1} → statement M
 meet-spec =

@@ -1,4 +1,4 @@
--- `unwind` meets its contract: the loop meets one waiting side after the other, until one of an S or until none is left.
+-- `unwind` meets its contract: the loop meets one waiting side after the other, until one of an S or none is left.
 use Prim.Native.Nat.{_-_}
 use borrow.Author.Needs.{needs}
 use borrow.Author.Tests.{not-false, not-true}

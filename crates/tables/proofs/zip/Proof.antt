@@ -1,4 +1,4 @@
--- `zip` meets its contract: the tables hold the machine after k letters; each letter adds at most two sides to the stacks.
+-- `zip` meets its contract: the tables hold the machine after k letters, and each letter adds at most two sides.
 use Prim.Native.Nat.{_-_}
 use native.Mathlib.Omega.{arith}
 use lib.ListN.{length}
