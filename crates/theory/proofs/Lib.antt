@@ -18,6 +18,7 @@ pub mod Closing
 pub mod Opens
 pub mod Chain
 pub mod JoinLaws
+pub mod JoinedTables
 pub mod Rows
 pub mod TableRows
 pub mod Loops
