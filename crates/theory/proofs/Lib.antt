@@ -28,4 +28,5 @@ pub mod WordTables
 pub mod WordRings
 pub mod ReadMesh
 pub mod CallLaws
+pub mod WalkLaws
 pub mod Marked

@@ -1,0 +1,88 @@
+-- The rows as answers of `step`, for what it has read: the tip's vertex u, left l and right r.
+--
+--   did-C did-S did-R did-L did-E did-end
+use mathlib.Core.List.{List}
+use mathlib.Core.Logic.{_≢_}
+use mathlib.Core.Path.{_≡_}
+use Prim.Native.Nat.{_+_, _-_, _<_, _≤_, ℕ}
+use native.Mathlib.Omega.{arith}
+use lib.ListN.{getD, length, length-set, set}
+use Rattle.theory.specs.Corner.{left, opposite, right, triangle, vertex}
+use Rattle.theory.specs.Letter.{letter}
+use Rattle.theory.specs.declared.Letter.the-variants.{C, E, L, R, S}
+use Rattle.walk.proofs.Rows.{row-C, row-E, row-L, row-R, row-S, row-end}
+use Rattle.walk.specs.Calls.{Steppable, Stepped}
+
+module _
+    (vs os : List ℕ)
+    (t n c p : ℕ)
+    (work : List ℕ)
+    (u l r : ℕ)
+    (h : Steppable vs os t c p work)
+    (eu : u ≡ vertex vs c)
+    (el : l ≡ left (opposite os) c)
+    (er : r ≡ right (opposite os) c) where
+  pub did-C : getD (set work (triangle c) 1) (t + u) 0 ≡ 0
+      → Stepped vs os t n c p work (record { letter = C; at = r; top = p; more = n }) (set (set work (triangle c) 1) (t + u) 1)
+  did-C k =
+      record {
+        onward = λ v g steps st s. rw (eu, er) (row-C vs os t v g n steps st work c p s (h .room) (h .within) (rw eu at k));
+        near = omega arith;
+        within = h .within;
+        fewer = omega arith;
+      }
+
+  module _ (k : getD (set work (triangle c) 1) (t + u) 0 ≢ 0) where
+    old : getD (set work (triangle c) 1) (t + vertex vs c) 0 ≢ 0
+    old = rw (← eu) k
+
+    pub did-S : getD (set work (triangle c) 1) (triangle l) 0 ≡ 0 → getD (set work (triangle c) 1) (triangle r) 0 ≡ 0
+        → Stepped vs os t n c p work (record { letter = S; at = r; top = p - 1; more = n }) (set (set work (triangle c) 1) (p - 1) l)
+    did-S a b =
+        record {
+          onward = λ v g steps st s. rw (el, er) (row-S vs os t v g n steps st work c p s (h .room) (h .within) old (rw el at a) (rw er at b));
+          near = omega (arith, h .room);
+          within = omega (arith, h .within);
+          fewer = omega arith;
+        }
+
+    pub did-R : getD (set work (triangle c) 1) (triangle l) 0 ≡ 0 → getD (set work (triangle c) 1) (triangle r) 0 ≢ 0
+        → Stepped vs os t n c p work (record { letter = R; at = l; top = p; more = n }) (set work (triangle c) 1)
+    did-R a b =
+        record {
+          onward = λ v g steps st s. rw el (row-R vs os t v g n steps st work c p s (h .room) (h .within) old (rw el at a) (rw er at b));
+          near = omega arith;
+          within = h .within;
+          fewer = omega arith;
+        }
+
+    pub did-L : getD (set work (triangle c) 1) (triangle l) 0 ≢ 0 → getD (set work (triangle c) 1) (triangle r) 0 ≡ 0
+        → Stepped vs os t n c p work (record { letter = L; at = r; top = p; more = n }) (set work (triangle c) 1)
+    did-L a b =
+        record {
+          onward = λ v g steps st s. rw er (row-L vs os t v g n steps st work c p s (h .room) (h .within) old (rw el at a) (rw er at b));
+          near = omega arith;
+          within = h .within;
+          fewer = omega arith;
+        }
+
+    module _ (a : getD (set work (triangle c) 1) (triangle l) 0 ≢ 0) (b : getD (set work (triangle c) 1) (triangle r) 0 ≢ 0) where
+      pub did-E : (d : ℕ) → d ≡ getD (set work (triangle c) 1) p 0 → p < length (set work (triangle c) 1)
+          → Stepped vs os t n c p work (record { letter = E; at = d; top = p + 1; more = n }) (set work (triangle c) 1)
+      did-E d e w =
+          record {
+            onward = λ v g steps st s. rw e (row-E vs os t v g n steps st work c p s (h .room) (h .within) old (rw el at a) (rw er at b) w);
+            near = omega arith;
+            within = omega (arith, length-set work (triangle c) 1);
+            fewer = omega arith;
+          }
+
+      pub did-end : length (set work (triangle c) 1) ≤ p
+          → Stepped vs os t n c p work (record { letter = E; at = c; top = p; more = 0 }) (set work (triangle c) 1)
+      did-end w =
+          record {
+            onward = λ v g steps st s. row-end vs os t v g n steps st work c p s (h .room) (h .within) old (rw el at a) (rw er at b) w;
+            near = omega arith;
+            within = h .within;
+            fewer = omega arith;
+          }
