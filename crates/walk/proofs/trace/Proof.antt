@@ -7,7 +7,8 @@ use Rattle.walk.proofs.trace.Statement.{statement}
 use Rattle.walk.proofs.trace.Tie as tie
 
 abbrev Inv-loop : tie.InvT-loop
-Inv-loop vs os v g letters₀ walk₀ work₀ t c₀ p₀ n₀ k₀ letters walk work c p n k = Tracing vs os v g letters₀ walk₀ p₀ letters walk work c p n k
+Inv-loop vs os v g letters₀ walk₀ work₀ t c₀ p₀ n₀ k₀ letters walk work c p n k =
+    Tracing vs os v g letters₀ walk₀ p₀ letters walk work c p n k
 
 abbrev μ-loop : tie.MeasureT-loop
 μ-loop vs os v g letters₀ walk₀ work₀ t c₀ p₀ n₀ k₀ letters walk work c p n k = n
@@ -16,32 +17,27 @@ wide-requires : tie.Need-wide-requires Inv-loop μ-loop
 wide-requires c κs = search needs
 
 mark-gate-requires : tie.Need-mark-gate-requires Inv-loop μ-loop
-mark-gate-requires c κs = gated _ _ _ _ _ _ _ (c .before .before .before .before .before .before .before .pre) _ (c .before .wide .ensures)
+mark-gate-requires c κs = gated (c .before .before .before .before .before .before .before .pre) (c .before .wide .ensures)
 
 loop-holds : tie.Need-loop-holds Inv-loop μ-loop
-loop-holds c = start _ _ _ _ _ _ _ (c .before .before .before .before .before .before .before .before .before .before .pre) _ _ (c .before .before .before .before .wide .ensures) (c .before .before .mark-gate .ensures)
+loop-holds c =
+    let s = c .before .before .before .before in
+    start (s .before .before .before .before .before .before .pre) (s .wide .ensures) (c .before .before .mark-gate .ensures)
 
 cast-walk : tie.Need-cast-walk Inv-loop μ-loop
-cast-walk c =
-    let l = c .before in
-    let h = corner-fits _ _ _ _ _ _ _ (l .before .before .before .before .before .before .before .before .before .before .before .pre) _ _ _ _ _ _ _ (l .loop .inv) in
-    omega arith
+cast-walk c = let h = corner-fits (c .before .loop .inv) in omega arith
 
 mul-walk : tie.Need-mul-walk Inv-loop μ-loop
 mul-walk c = search needs
 
 slice-write-walk : tie.Need-slice-write-walk Inv-loop μ-loop
-slice-write-walk c =
-    let l = c .before in
-    room-path _ _ _ _ _ _ _ (l .before .before .before .before .before .before .before .before .before .before .before .pre) _ _ _ _ _ _ _ (l .loop .inv) (c .loop-test .taken)
+slice-write-walk c = room-path (c .before .loop .inv) (c .loop-test .taken)
 
 sub-step : tie.Need-sub-step Inv-loop μ-loop
 sub-step c = search needs
 
 step-requires : tie.Need-step-requires Inv-loop μ-loop
-step-requires c κs =
-    let l = c .before .before in
-    steppable _ _ _ _ _ _ _ (l .before .before .before .before .before .before .before .before .before .before .before .pre) _ _ _ _ _ _ _ (l .loop .inv) (c .before .loop-test .taken)
+step-requires c κs = steppable (c .before .before .loop .inv) (c .before .loop-test .taken)
 
 byte-of-requires : tie.Need-byte-of-requires Inv-loop μ-loop
 byte-of-requires c κs = search needs
@@ -49,7 +45,7 @@ byte-of-requires c κs = search needs
 slice-write-letters : tie.Need-slice-write-letters Inv-loop μ-loop
 slice-write-letters c =
     let l = c .before .before .before .before .before .before in
-    room-letters _ _ _ _ _ _ _ (l .before .before .before .before .before .before .before .before .before .before .before .pre) _ _ _ _ _ _ _ (l .loop .inv) (c .before .before .before .before .before .loop-test .taken)
+    room-letters (l .loop .inv) (c .before .before .before .before .before .loop-test .taken)
 
 add-k : tie.Need-add-k Inv-loop μ-loop
 add-k c = search needs
@@ -61,7 +57,7 @@ loop-again : tie.Need-loop-again Inv-loop μ-loop
 loop-again c =
     let l = c .before .before .before .before .before .before in
     let s = c .before .before .before in
-    turn _ _ _ _ _ _ _ (l .before .before .before .before .before .before .before .before .before .before .before .pre) _ _ _ _ _ _ _ (l .loop .inv) _ _ _ (s .before .before .loop-test .taken) (c .byte-of .ensures) (s .step .kept .1 .1 .0) (s .step .ensures)
+    turn (l .loop .inv) (s .before .before .loop-test .taken) (c .byte-of .ensures) (s .step .kept .1 .1 .0) (s .step .ensures)
 
 same-length : tie.Need-same-length Inv-loop μ-loop
 same-length c = c .before .loop .inv .said .same
@@ -73,9 +69,7 @@ same-length-3 : tie.Need-same-length-3 Inv-loop μ-loop
 same-length-3 c = c .before .loop .inv .same
 
 returns : tie.Need-returns Inv-loop μ-loop
-returns c =
-    let l = c .before in
-    end _ _ _ _ _ _ _ (l .before .before .before .before .before .before .before .before .before .before .before .pre) _ _ _ _ _ _ _ (l .loop .inv) (c .loop-test .left)
+returns c = end (c .before .loop .inv) (c .loop-test .left)
 
 pub trace-spec : {M : Type 1} → statement M
 trace-spec =
