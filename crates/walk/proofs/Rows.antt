@@ -1,9 +1,9 @@
 -- Each row of the letter table, in the work table: the entries that were read give the letter, and what is stored then
 -- makes the table stand for one step more.
 --
---   tip-fits left-in right-in    what a corner of the mesh leads to lies in the mesh
---   row-C row-L row-R row-S      the four rows that go on at a neighbour
---   row-E row-end                an E with a waiting left, and one without
+--   few tip-fits left-in right-in    what a corner of the mesh leads to lies in the mesh
+--   row-C row-S row-R row-L          the four rows that go on at a neighbour
+--   row-E row-end                    an E with a waiting left, and one without
 use mathlib.Core.Bool.{Bool, false, true}
 use mathlib.Core.List.{List, [], _∷_}
 use mathlib.Core.Logic.{_≢_, inl, inr}
@@ -22,144 +22,137 @@ use Rattle.theory.specs.Walk.{Step, _＠_, bySides, letterAt, marks, tips, walk
 use Rattle.theory.specs.declared.Letter.{Letter}
 use Rattle.theory.specs.declared.Letter.the-variants.{C, E, L, R, S}
 use Rattle.walk.proofs.TableLaws.{mark, marked-past, off-is, on-is, visit, visited-past}
-use Rattle.walk.specs.Table.{Below, Marked, Onward, Standing, Visited, on}
+use Rattle.walk.specs.Table.{Below, Marked, Onward, Standing, Visited, entered, on}
+use types.Kit.{split}
 
-module _ (vs os : List ℕ) (t v g : ℕ) (m : Sphere (vertex vs) (opposite os) t v g) where
-  pub few : v ≤ 2 * t
-  few = omega (arith, m .gate, m .euler)
-
-  module _ (c : ℕ) (h : c < 3 * t) where
-    pub tip-fits : vertex vs c < 2 * t
-    tip-fits = omega (arith, few, m .below c h)
-
-    pub left-in : left (opposite os) c < 3 * t
-    left-in = m .inside (previous c) (previous-low t c h)
-
-    pub right-in : right (opposite os) c < 3 * t
-    right-in = m .inside (next c) (next-low t c h)
+pub few : {lab opp : ℕ → ℕ} {t v g : ℕ} → Sphere lab opp t v g → v ≤ 2 * t
+few m = omega (arith, m .gate, m .euler)
 
 module _
-    (vs os : List ℕ)
-    (t v g n : ℕ)
-    (steps : List Step)
-    (st work : List ℕ)
-    (c p : ℕ)
-    (s : Standing vs os t v g steps st work c p)
-    (room : 3 * t < p)
-    (within : p ≤ length work) where
-  -- the table with c's triangle visited
-  abbrev pub now : List ℕ
-  now = set work (triangle c) 1
+    {vs os : List ℕ}
+    {t v g : ℕ}
+    {steps : List Step}
+    {st work : List ℕ}
+    {c p : ℕ}
+    (s : Standing vs os t v g steps st work c p) where
+  tip-below : vertex vs c < v
+  tip-below = s .mesh .below c (s .here)
 
-  fits : t + v ≤ 3 * t
-  fits = omega (arith, few vs os t v g (s .mesh))
+  pub tip-fits : vertex vs c < 2 * t
+  tip-fits = omega (arith, few (s .mesh), tip-below)
 
-  seen-now : (a : Letter) → Visited t ((a ＠ c) ∷ steps) now
-  seen-now a = visit t steps work (s .visited) a c (s .here) (omega arith)
+  pub left-in : left (opposite os) c < 3 * t
+  left-in = s .mesh .inside (previous c) (previous-low t c (s .here))
 
-  marked-now : Marked vs t v g steps now
-  marked-now = marked-past vs t v g steps work (s .marked) (triangle c) 1 (inl (omega (arith, s .here)))
+  pub right-in : right (opposite os) c < 3 * t
+  right-in = s .mesh .inside (next c) (next-low t c (s .here))
 
-  waiting-now : drop p now ≡ st
-  waiting-now = drop-set-lt p work (triangle c) 1 (omega (arith, s .here)) ∙ s .waiting
+  module _ (room : 3 * t < p) (within : p ≤ length work) where
+    long : length (entered work c) ≡ length work
+    long = length-set work (triangle c) 1
 
-  letter-now : (a b : Bool) → on now (t + vertex vs c) ≡ true → on now (triangle (left (opposite os) c)) ≡ a
-      → on now (triangle (right (opposite os) c)) ≡ b → letterAt (vertex vs) (opposite os) g steps c ≡ bySides a b
-  letter-now a b k el er =
-      letter-old (vertex vs) (opposite os) g steps c a b
-      (sym (marked-now (vertex vs c) (s .mesh .below c (s .here))) ∙ k)
-      (sym (seen-now E (left (opposite os) c) (left-in vs os t v g (s .mesh) c (s .here))) ∙ el)
-      (sym (seen-now E (right (opposite os) c) (right-in vs os t v g (s .mesh) c (s .here))) ∙ er)
+    spare : t + v ≤ 3 * t
+    spare = omega (arith, few (s .mesh))
 
-  -- after a step that stores nothing more
-  stand : (a : Letter) (d : ℕ) → Marked vs t v g ((a ＠ c) ∷ steps) now → d < 3 * t → Standing vs os t v g ((a ＠ c) ∷ steps) st now d p
-  stand a d k h =
-      record { mesh = s .mesh; here = h; visited = seen-now a; marked = k; waiting = waiting-now; below = s .below }
+    seen-now : (a : Letter) → Visited t ((a ＠ c) ∷ steps) (entered work c)
+    seen-now a = visit t steps work (s .visited) a c (s .here) (omega arith)
 
-  pub row-C : getD now (t + vertex vs c) 0 ≡ 0
-      → Onward vs os t v g n steps st c C (set now (t + vertex vs c) 1) (right (opposite os) c) p n
-  row-C k =
-      let b = s .mesh .below c (s .here) in
-      let long : length now ≡ length work = length-set work (triangle c) 1 in
-      let new : letterAt (vertex vs) (opposite os) g steps c ≡ C =
-      letter-new (vertex vs) (opposite os) g steps c (sym (marked-now (vertex vs c) b) ∙ off-is now (t + vertex vs c) k) in
-      record {
-        waits = st;
-        stands = record {
-          mesh = s .mesh;
-          here = right-in vs os t v g (s .mesh) c (s .here);
-          visited = visited-past t ((C ＠ c) ∷ steps) now (seen-now C) (t + vertex vs c) 1 (omega arith);
-          marked = mark vs t v g steps now marked-now c b (omega (arith, fits));
-          waiting = drop-set-lt p now (t + vertex vs c) 1 (omega (arith, fits)) ∙ waiting-now;
-          below = s .below;
-        };
-        goes = walk-C (vertex vs) (opposite os) g steps c n st new;
-      }
+    marked-now : Marked vs t v g steps (entered work c)
+    marked-now = marked-past vs t v g steps work (s .marked) (triangle c) 1 (inl (omega (arith, s .here)))
 
-  module _ (k : getD now (t + vertex vs c) 0 ≢ 0) where
-    old : on now (t + vertex vs c) ≡ true
-    old = on-is now (t + vertex vs c) k
+    waiting-now : drop p (entered work c) ≡ st
+    waiting-now = drop-set-lt p work (triangle c) 1 (omega (arith, s .here)) ∙ s .waiting
 
-    module _ (el : getD now (triangle (left (opposite os) c)) 0 ≡ 0) where
-      free : on now (triangle (left (opposite os) c)) ≡ false
-      free = off-is now (triangle (left (opposite os) c)) el
+    letter-now : (a b : Bool) → on (entered work c) (t + vertex vs c) ≡ true → on (entered work c) (triangle (left (opposite os) c)) ≡ a
+        → on (entered work c) (triangle (right (opposite os) c)) ≡ b → letterAt (vertex vs) (opposite os) g steps c ≡ bySides a b
+    letter-now a b k el er =
+        letter-old (vertex vs) (opposite os) g steps c a b (sym (marked-now (vertex vs c) tip-below) ∙ k)
+        (sym (seen-now E (left (opposite os) c) left-in) ∙ el)
+        (sym (seen-now E (right (opposite os) c) right-in) ∙ er)
 
-      pub row-S : getD now (triangle (right (opposite os) c)) 0 ≡ 0
-          → Onward vs os t v g n steps st c S (set now (p - 1) (left (opposite os) c)) (right (opposite os) c) (p - 1) n
+    -- after a step that stores nothing more
+    stand : (a : Letter) (d : ℕ) → Marked vs t v g ((a ＠ c) ∷ steps) (entered work c) → d < 3 * t
+        → Standing vs os t v g ((a ＠ c) ∷ steps) st (entered work c) d p
+    stand a d k h =
+        record { mesh = s .mesh; here = h; visited = seen-now a; marked = k; waiting = waiting-now; below = s .below }
+
+    pub row-C : {n : ℕ} → getD (entered work c) (t + vertex vs c) 0 ≡ 0
+        → Onward vs os t v g n steps st c C (set (entered work c) (t + vertex vs c) 1) (right (opposite os) c) p n
+    row-C {n} k =
+        let new = letter-new (vertex vs) (opposite os) g steps c
+        (sym (marked-now (vertex vs c) tip-below) ∙ off-is (entered work c) (t + vertex vs c) k) in
+        record {
+          waits = st;
+          stands = record {
+            mesh = s .mesh;
+            here = right-in;
+            visited = visited-past t ((C ＠ c) ∷ steps) (entered work c) (seen-now C) (t + vertex vs c) 1 (omega arith);
+            marked = mark vs t v g steps (entered work c) marked-now c tip-below (omega (arith, spare, long));
+            waiting = drop-set-lt p (entered work c) (t + vertex vs c) 1 (omega (arith, spare, tip-below)) ∙ waiting-now;
+            below = s .below;
+          };
+          goes = walk-C (vertex vs) (opposite os) g steps c n st new;
+        }
+
+    module _ (k : getD (entered work c) (t + vertex vs c) 0 ≢ 0) where
+      old : on (entered work c) (t + vertex vs c) ≡ true
+      old = on-is (entered work c) (t + vertex vs c) k
+
+      pub row-S : {n : ℕ} → getD (entered work c) (triangle (left (opposite os) c)) 0 ≡ 0 → getD (entered work c) (triangle (right (opposite os) c)) 0 ≡ 0
+          → Onward vs os t v g n steps st c S (set (entered work c) (p - 1) (left (opposite os) c)) (right (opposite os) c) (p - 1) n
       unfolding marks tips bySides
-      row-S er =
+      row-S {n} el er =
           let l = left (opposite os) c in
-          let long : length now ≡ length work = length-set work (triangle c) 1 in
+          let split = letter-now false false old (off-is (entered work c) _ el) (off-is (entered work c) _ er) in
           record {
             waits = l ∷ st;
             stands = record {
               mesh = s .mesh;
-              here = right-in vs os t v g (s .mesh) c (s .here);
-              visited = visited-past t ((S ＠ c) ∷ steps) now (seen-now S) (p - 1) l (omega arith);
-              marked = marked-past vs t v g steps now marked-now (p - 1) l (inr (omega (arith, fits)));
-              waiting = push-set now p l (omega arith) (omega arith) ∙ ap (λ (y : List ℕ). l ∷ y) waiting-now;
-              below = (left-in vs os t v g (s .mesh) c (s .here), s .below);
+              here = right-in;
+              visited = visited-past t ((S ＠ c) ∷ steps) (entered work c) (seen-now S) (p - 1) l (omega arith);
+              marked = marked-past vs t v g steps (entered work c) marked-now (p - 1) l (inr (omega (arith, spare)));
+              waiting = push-set (entered work c) p l (omega arith) (omega (arith, long)) ∙ ap (λ (y : List ℕ). l ∷ y) waiting-now;
+              below = (left-in, s .below);
             };
-            goes = walk-S (vertex vs) (opposite os) g steps c n st
-                (letter-now false false old free (off-is now (triangle (right (opposite os) c)) er));
+            goes = walk-S (vertex vs) (opposite os) g steps c n st split;
           }
 
-      pub row-R : getD now (triangle (right (opposite os) c)) 0 ≢ 0 → Onward vs os t v g n steps st c R now (left (opposite os) c) p n
+      pub row-R : {n : ℕ} → getD (entered work c) (triangle (left (opposite os) c)) 0 ≡ 0 → getD (entered work c) (triangle (right (opposite os) c)) 0 ≢ 0
+          → Onward vs os t v g n steps st c R (entered work c) (left (opposite os) c) p n
       unfolding marks tips bySides
-      row-R er =
+      row-R {n} el er =
           record {
             waits = st;
-            stands = stand R (left (opposite os) c) marked-now (left-in vs os t v g (s .mesh) c (s .here));
-            goes = walk-R (vertex vs) (opposite os) g steps c n st
-                (letter-now false true old free (on-is now (triangle (right (opposite os) c)) er));
+            stands = stand R (left (opposite os) c) marked-now left-in;
+            goes =
+                walk-R (vertex vs) (opposite os) g steps c n st
+                (letter-now false true old (off-is (entered work c) _ el) (on-is (entered work c) _ er));
           }
 
-    module _ (el : getD now (triangle (left (opposite os) c)) 0 ≢ 0) where
-      taken : on now (triangle (left (opposite os) c)) ≡ true
-      taken = on-is now (triangle (left (opposite os) c)) el
-
-      pub row-L : getD now (triangle (right (opposite os) c)) 0 ≡ 0 → Onward vs os t v g n steps st c L now (right (opposite os) c) p n
+      pub row-L : {n : ℕ} → getD (entered work c) (triangle (left (opposite os) c)) 0 ≢ 0 → getD (entered work c) (triangle (right (opposite os) c)) 0 ≡ 0
+          → Onward vs os t v g n steps st c L (entered work c) (right (opposite os) c) p n
       unfolding marks tips bySides
-      row-L er =
+      row-L {n} el er =
           record {
             waits = st;
-            stands = stand L (right (opposite os) c) marked-now (right-in vs os t v g (s .mesh) c (s .here));
-            goes = walk-L (vertex vs) (opposite os) g steps c n st
-                (letter-now true false old taken (off-is now (triangle (right (opposite os) c)) er));
+            stands = stand L (right (opposite os) c) marked-now right-in;
+            goes =
+                walk-L (vertex vs) (opposite os) g steps c n st
+                (letter-now true false old (on-is (entered work c) _ el) (off-is (entered work c) _ er));
           }
 
-      module _ (er : getD now (triangle (right (opposite os) c)) 0 ≢ 0) where
+      module _ (el : getD (entered work c) (triangle (left (opposite os) c)) 0 ≢ 0) (er : getD (entered work c) (triangle (right (opposite os) c)) 0 ≢ 0) where
         ended : letterAt (vertex vs) (opposite os) g steps c ≡ E
         unfolding bySides
-        ended = letter-now true true old taken (on-is now (triangle (right (opposite os) c)) er)
+        ended = letter-now true true old (on-is (entered work c) _ el) (on-is (entered work c) _ er)
 
-        pub row-E : p < length now → Onward vs os t v g n steps st c E now (getD now p 0) (p + 1) n
+        pub row-E : {n : ℕ} → p < length (entered work c) → Onward vs os t v g n steps st c E (entered work c) (getD (entered work c) p 0) (p + 1) n
         unfolding marks tips
-        row-E h =
-            let e : st ≡ getD now p 0 ∷ drop (suc p) now = sym waiting-now ∙ drop-cons now p 0 h in
-            let b : Below (3 * t) (getD now p 0 ∷ drop (suc p) now) = subst (Below (3 * t)) e (s .below) in
+        row-E {n} h =
+            let e : st ≡ getD (entered work c) p 0 ∷ drop (suc p) (entered work c) = sym waiting-now ∙ drop-cons (entered work c) p 0 h in
+            let b : Below (3 * t) (getD (entered work c) p 0 ∷ drop (suc p) (entered work c)) = subst (Below (3 * t)) e (s .below) in
             record {
-              waits = drop (suc p) now;
+              waits = drop (suc p) (entered work c);
               stands = record {
                 mesh = s .mesh;
                 here = b .0;
@@ -168,24 +161,19 @@ module _
                 waiting = rw (add-one p);
                 below = b .1;
               };
-              goes = ap (λ (y : List ℕ). walk (vertex vs) (opposite os) g (suc n) steps y c) e
-                  ∙ walk-E (vertex vs) (opposite os) g steps c n (drop (suc p) now) (getD now p 0) ended;
+              goes =
+                  ap (λ (y : List ℕ). walk (vertex vs) (opposite os) g (suc n) steps y c) e
+                  ∙ walk-E (vertex vs) (opposite os) g steps c n (drop (suc p) (entered work c)) (getD (entered work c) p 0) ended;
             }
 
-        pub row-end : length now ≤ p → Onward vs os t v g n steps st c E now c p 0
+        pub row-end : {n : ℕ} → length (entered work c) ≤ p → Onward vs os t v g n steps st c E (entered work c) c p 0
         unfolding marks tips
-        row-end h =
-            let e : st ≡ [] = sym waiting-now ∙ drop-of-length-le now h in
+        row-end {n} h =
+            let e : st ≡ [] = sym waiting-now ∙ drop-of-length-le (entered work c) h in
             record {
               waits = [];
-              stands = record {
-                mesh = s .mesh;
-                here = s .here;
-                visited = seen-now E;
-                marked = marked-now;
-                waiting = waiting-now ∙ e;
-                below = tt;
-              };
-              goes = ap (λ (y : List ℕ). walk (vertex vs) (opposite os) g (suc n) steps y c) e
+              stands = subst (λ (y : List ℕ). Standing vs os t v g ((E ＠ c) ∷ steps) y (entered work c) c p) e (stand E c marked-now (s .here));
+              goes =
+                  ap (λ (y : List ℕ). walk (vertex vs) (opposite os) g (suc n) steps y c) e
                   ∙ walk-end (vertex vs) (opposite os) g steps c n [] c ended;
             }

@@ -12,77 +12,77 @@ use Rattle.theory.specs.Letter.{letter}
 use Rattle.theory.specs.declared.Letter.the-variants.{C, E, L, R, S}
 use Rattle.walk.proofs.Rows.{row-C, row-E, row-L, row-R, row-S, row-end}
 use Rattle.walk.specs.Calls.{Steppable, Stepped}
+use Rattle.walk.specs.Table.{entered}
 
 module _
-    (vs os : List ℕ)
-    (t n c p : ℕ)
-    (work : List ℕ)
-    (u l r : ℕ)
+    {vs os : List ℕ}
+    {t c p : ℕ}
+    {work : List ℕ}
+    {u l r : ℕ}
     (h : Steppable vs os t c p work)
     (eu : u ≡ vertex vs c)
     (el : l ≡ left (opposite os) c)
     (er : r ≡ right (opposite os) c) where
-  pub did-C : getD (set work (triangle c) 1) (t + u) 0 ≡ 0
-      → Stepped vs os t n c p work (record { letter = C; at = r; top = p; more = n }) (set (set work (triangle c) 1) (t + u) 1)
+  pub did-C : {n : ℕ} → getD (entered work c) (t + u) 0 ≡ 0
+      → Stepped vs os t n c p work (record { letter = C; at = r; top = p; more = n }) (set (entered work c) (t + u) 1)
   did-C k =
       record {
-        onward = λ v g steps st s. rw (eu, er) (row-C vs os t v g n steps st work c p s (h .room) (h .within) (rw eu at k));
+        onward = λ v g steps st s. rw (eu, er) (row-C s (h .room) (h .within) (rw eu at k));
         near = omega arith;
         within = h .within;
         fewer = omega arith;
       }
 
-  module _ (k : getD (set work (triangle c) 1) (t + u) 0 ≢ 0) where
-    old : getD (set work (triangle c) 1) (t + vertex vs c) 0 ≢ 0
+  module _ (k : getD (entered work c) (t + u) 0 ≢ 0) where
+    old : getD (entered work c) (t + vertex vs c) 0 ≢ 0
     old = rw (← eu) k
 
-    pub did-S : getD (set work (triangle c) 1) (triangle l) 0 ≡ 0 → getD (set work (triangle c) 1) (triangle r) 0 ≡ 0
-        → Stepped vs os t n c p work (record { letter = S; at = r; top = p - 1; more = n }) (set (set work (triangle c) 1) (p - 1) l)
+    pub did-S : {n : ℕ} → getD (entered work c) (triangle l) 0 ≡ 0 → getD (entered work c) (triangle r) 0 ≡ 0
+        → Stepped vs os t n c p work (record { letter = S; at = r; top = p - 1; more = n }) (set (entered work c) (p - 1) l)
     did-S a b =
         record {
-          onward = λ v g steps st s. rw (el, er) (row-S vs os t v g n steps st work c p s (h .room) (h .within) old (rw el at a) (rw er at b));
+          onward = λ v g steps st s. rw (el, er) (row-S s (h .room) (h .within) old (rw el at a) (rw er at b));
           near = omega (arith, h .room);
           within = omega (arith, h .within);
           fewer = omega arith;
         }
 
-    pub did-R : getD (set work (triangle c) 1) (triangle l) 0 ≡ 0 → getD (set work (triangle c) 1) (triangle r) 0 ≢ 0
-        → Stepped vs os t n c p work (record { letter = R; at = l; top = p; more = n }) (set work (triangle c) 1)
+    pub did-R : {n : ℕ} → getD (entered work c) (triangle l) 0 ≡ 0 → getD (entered work c) (triangle r) 0 ≢ 0
+        → Stepped vs os t n c p work (record { letter = R; at = l; top = p; more = n }) (entered work c)
     did-R a b =
         record {
-          onward = λ v g steps st s. rw el (row-R vs os t v g n steps st work c p s (h .room) (h .within) old (rw el at a) (rw er at b));
+          onward = λ v g steps st s. rw el (row-R s (h .room) (h .within) old (rw el at a) (rw er at b));
           near = omega arith;
           within = h .within;
           fewer = omega arith;
         }
 
-    pub did-L : getD (set work (triangle c) 1) (triangle l) 0 ≢ 0 → getD (set work (triangle c) 1) (triangle r) 0 ≡ 0
-        → Stepped vs os t n c p work (record { letter = L; at = r; top = p; more = n }) (set work (triangle c) 1)
+    pub did-L : {n : ℕ} → getD (entered work c) (triangle l) 0 ≢ 0 → getD (entered work c) (triangle r) 0 ≡ 0
+        → Stepped vs os t n c p work (record { letter = L; at = r; top = p; more = n }) (entered work c)
     did-L a b =
         record {
-          onward = λ v g steps st s. rw er (row-L vs os t v g n steps st work c p s (h .room) (h .within) old (rw el at a) (rw er at b));
+          onward = λ v g steps st s. rw er (row-L s (h .room) (h .within) old (rw el at a) (rw er at b));
           near = omega arith;
           within = h .within;
           fewer = omega arith;
         }
 
-    module _ (a : getD (set work (triangle c) 1) (triangle l) 0 ≢ 0) (b : getD (set work (triangle c) 1) (triangle r) 0 ≢ 0) where
-      pub did-E : (d : ℕ) → d ≡ getD (set work (triangle c) 1) p 0 → p < length (set work (triangle c) 1)
-          → Stepped vs os t n c p work (record { letter = E; at = d; top = p + 1; more = n }) (set work (triangle c) 1)
-      did-E d e w =
-          record {
-            onward = λ v g steps st s. rw e (row-E vs os t v g n steps st work c p s (h .room) (h .within) old (rw el at a) (rw er at b) w);
-            near = omega arith;
-            within = omega (arith, length-set work (triangle c) 1);
-            fewer = omega arith;
-          }
+    pub did-E : {n d : ℕ} → getD (entered work c) (triangle l) 0 ≢ 0 → getD (entered work c) (triangle r) 0 ≢ 0 → d ≡ getD (entered work c) p 0 → p < length (entered work c)
+        → Stepped vs os t n c p work (record { letter = E; at = d; top = p + 1; more = n }) (entered work c)
+    did-E a b e w =
+        record {
+          onward = λ v g steps st s. rw e (row-E s (h .room) (h .within) old (rw el at a) (rw er at b) w);
+          near = omega arith;
+          within = omega (arith, length-set work (triangle c) 1);
+          fewer = omega arith;
+        }
 
-      pub did-end : length (set work (triangle c) 1) ≤ p
-          → Stepped vs os t n c p work (record { letter = E; at = c; top = p; more = 0 }) (set work (triangle c) 1)
-      did-end w =
-          record {
-            onward = λ v g steps st s. row-end vs os t v g n steps st work c p s (h .room) (h .within) old (rw el at a) (rw er at b) w;
-            near = omega arith;
-            within = h .within;
-            fewer = omega arith;
-          }
+    pub did-end : {n : ℕ} → getD (entered work c) (triangle l) 0 ≢ 0 → getD (entered work c) (triangle r) 0 ≢ 0 → length (entered work c) ≤ p
+        → Stepped vs os t n c p work (record { letter = E; at = c; top = p; more = 0 }) (entered work c)
+    did-end a b w =
+        record {
+          onward = λ v g steps st s. row-end s (h .room) (h .within) old (rw el at a) (rw er at b) w;
+          near = omega arith;
+          within = h .within;
+          fewer = omega arith;
+        }

@@ -66,10 +66,10 @@ module _ {vs os : List ℕ} {v g : ℕ} {letters path work : List ℕ} (h : Trac
       let q : work′ ≡ gateIn vs t g (replicate (length work) 0) = e ∙ ap (gateIn vs t g) (h .blank) in
       let a = sphere .below (next g) (next-low t g (sphere .gate)) in
       let b = sphere .below (previous g) (previous-low t g (sphere .gate)) in
-      let fits : t + v ≤ length work = omega (arith, h .room, few vs os t v g sphere) in
+      let fits : t + v ≤ length work = omega (arith, h .room, few sphere) in
       let same : length work′ ≡ length work =
-          ap length e ∙ length-set (set work (t + vertex vs (next g)) 1) (t + vertex vs (previous g)) 1
-          ∙ length-set work (t + vertex vs (next g)) 1 in
+      ap length e ∙ length-set (set work (t + vertex vs (next g)) 1) (t + vertex vs (previous g)) 1
+      ∙ length-set work (t + vertex vs (next g)) 1 in
       record {
         mesh = h .mesh;
         enough = h .enough;
@@ -109,15 +109,12 @@ module _ {vs os : List ℕ} {v g : ℕ} {letters₀ path₀ : List ℕ} {long : 
 
   pub steppable : 0 < n → Steppable vs os (length vs / 3) c p work
   steppable b =
-      let t = length vs / 3 in
-      let m = i .stands .mesh in
-      let d = i .stands .here in
       record {
         small = shape-small vs os (i .mesh .shape);
-        here = d;
+        here = i .stands .here;
         corners = (shape-vertices vs os (i .mesh .shape), shape-corners vs os (i .mesh .shape));
-        tip = tip-fits vs os t v g m c d;
-        sides = (left-in vs os t v g m c d, right-in vs os t v g m c d);
+        tip = tip-fits (i .stands);
+        sides = (left-in (i .stands), right-in (i .stands));
         room = omega (arith, i .large, i .room, i .count);
         within = omega (arith, i .within, i .same);
       }
@@ -131,7 +128,7 @@ module _ {vs os : List ℕ} {v g : ℕ} {letters₀ path₀ : List ℕ} {long : 
       let later = ahead vs os g (r .more) ((r .letter ＠ c) ∷ i .steps) (o .waits) (r .at) in
       let z : suc (n - 1) ≡ n = omega arith in
       let e : ahead vs os g n (i .steps) (i .waits) c ≡ (r .letter ＠ c) ∷ later =
-          ap (λ (y : ℕ). ahead vs os g y (i .steps) (i .waits) c) (sym z) ∙ o .goes in
+      ap (λ (y : ℕ). ahead vs os g y (i .steps) (i .waits) c) (sym z) ∙ o .goes in
       record {
         mesh = i .mesh;
         enough = i .enough;
@@ -153,7 +150,7 @@ module _ {vs os : List ℕ} {v g : ℕ} {letters₀ path₀ : List ℕ} {long : 
   end b =
       let z : n ≡ 0 = omega arith in
       let none : ahead vs os g n (i .steps) (i .waits) c ≡ [] =
-          ap (λ (y : ℕ). ahead vs os g y (i .steps) (i .waits) c) z in
+      ap (λ (y : ℕ). ahead vs os g y (i .steps) (i .waits) c) z in
       record {
         said = whole-is (omega (arith, i .enough .0, i .count, i .said .same)) (ap lettersOf none) (i .said);
         went = whole-is (omega (arith, i .enough .1, i .count, i .went .same)) (ap cornersOf none) (i .went);

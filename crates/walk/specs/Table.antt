@@ -4,6 +4,7 @@
 --   Visited       entry k is on exactly if triangle k is visited
 --   Marked        entry t + u is on exactly if vertex u is marked
 --   Below m st    every number of st is below m
+--   entered       the table with one triangle more visited
 --   gateIn        the table with the gate's two ends marked
 --   Standing      the table, the corner c and the stack's top p stand for some steps and some waiting lefts
 --   Onward        what a step at corner c leads to: its letter, the table after it, the next corner, the stack's top, and
@@ -32,6 +33,10 @@ Marked vs t v g steps work = (u : ℕ) → u < v → on work (t + u) ≡ mem u (
 abbrev pub Below : ℕ → List ℕ → Type 0
 Below m [] = Unit
 Below m (d ∷ st) = (d < m) × Below m st
+
+-- triangle of corner c visited
+abbrev pub entered : List ℕ → ℕ → List ℕ
+entered work c = set work (triangle c) 1
 
 -- the two ends of the gate corner's edge marked
 abbrev pub gateIn : List ℕ → ℕ → ℕ → List ℕ → List ℕ

@@ -51,7 +51,7 @@ returns c =
     let r = c .before .before in
     let w = r .before .before in
     let s = w .before .before .before .before .before in
-    did-C _ _ _ _ _ _ _ _ _ _ (s .pre) (w .wide .ensures) (r .before .left-of .ensures .0) (r .right-of .ensures .0)
+    did-C (s .pre) (w .wide .ensures) (r .before .left-of .ensures .0) (r .right-of .ensures .0)
     (c .if1 .taken)
 
 mul-if2 : tie.Need-mul-if2
@@ -89,7 +89,7 @@ returns-2 c =
     let r = c .before .before .before .before .before .before in
     let w = r .before .before in
     let s = w .before .before .before .before .before in
-    did-S _ _ _ _ _ _ _ _ _ _ (s .pre) (w .wide .ensures) (r .before .left-of .ensures .0) (r .right-of .ensures .0)
+    did-S (s .pre) (w .wide .ensures) (r .before .left-of .ensures .0) (r .right-of .ensures .0)
     (c .before .before .before .before .if1 .left) (c .before .before .if2 .taken) (c .if3 .taken)
 
 same-length-3 : tie.Need-same-length-3
@@ -100,7 +100,7 @@ returns-3 c =
     let r = c .before .before .before .before .before .before in
     let w = r .before .before in
     let s = w .before .before .before .before .before in
-    did-R _ _ _ _ _ _ _ _ _ _ (s .pre) (w .wide .ensures) (r .before .left-of .ensures .0) (r .right-of .ensures .0)
+    did-R (s .pre) (w .wide .ensures) (r .before .left-of .ensures .0) (r .right-of .ensures .0)
     (c .before .before .before .before .if1 .left) (c .before .before .if2 .taken) (c .if3 .left)
 
 mul-if4 : tie.Need-mul-if4
@@ -117,7 +117,7 @@ returns-4 c =
     let r = c .before .before .before .before .before .before in
     let w = r .before .before in
     let s = w .before .before .before .before .before in
-    did-L _ _ _ _ _ _ _ _ _ _ (s .pre) (w .wide .ensures) (r .before .left-of .ensures .0) (r .right-of .ensures .0)
+    did-L (s .pre) (w .wide .ensures) (r .before .left-of .ensures .0) (r .right-of .ensures .0)
     (c .before .before .before .before .if1 .left) (c .before .before .if2 .left) (c .if4 .taken)
 
 mul-wide-2 : tie.Need-mul-wide-2
@@ -140,8 +140,8 @@ returns-5 c =
     let r = c .before .before .before .before .before .before .before .before .before in
     let w = r .before .before in
     let s = w .before .before .before .before .before in
-    did-E _ _ _ _ _ _ _ _ _ _ (s .pre) (w .wide .ensures) (r .before .left-of .ensures .0) (r .right-of .ensures .0)
-    (c .before .before .before .before .before .before .before .if1 .left) (c .before .before .before .before .before .if2 .left) (c .before .before .before .if4 .left) _ (c .wide2 .ensures) (c .before .before .if5 .taken)
+    did-E (s .pre) (w .wide .ensures) (r .before .left-of .ensures .0) (r .right-of .ensures .0)
+    (c .before .before .before .before .before .before .before .if1 .left) (c .before .before .before .before .before .if2 .left) (c .before .before .before .if4 .left) (c .wide2 .ensures) (c .before .before .if5 .taken)
 
 same-length-6 : tie.Need-same-length-6
 same-length-6 c = search needs
@@ -151,7 +151,7 @@ returns-6 c =
     let r = c .before .before .before .before .before .before .before in
     let w = r .before .before in
     let s = w .before .before .before .before .before in
-    did-end _ _ _ _ _ _ _ _ _ _ (s .pre) (w .wide .ensures) (r .before .left-of .ensures .0) (r .right-of .ensures .0)
+    did-end (s .pre) (w .wide .ensures) (r .before .left-of .ensures .0) (r .right-of .ensures .0)
     (c .before .before .before .before .before .if1 .left) (c .before .before .before .if2 .left) (c .before .if4 .left) (c .if5 .left)
 
 pub step-spec : {M : Type 1} → statement M
