@@ -39,7 +39,8 @@ module _ (lab opp : ℕ → ℕ) (g : ℕ) (steps : List Step) (c : ℕ) where
     walk-R h = rw (walk, h)
 
     pub walk-S : letterAt lab opp g steps c ≡ S
-        → walk lab opp g (suc n) steps st c ≡ (S ＠ c) ∷ walk lab opp g n ((S ＠ c) ∷ steps) (left opp c ∷ st) (right opp c)
+        → walk lab opp g (suc n) steps st c
+        ≡ (S ＠ c) ∷ walk lab opp g n ((S ＠ c) ∷ steps) (left opp c ∷ st) (right opp c)
     unfolding walk
     walk-S h = rw (walk, h)
 

@@ -11,7 +11,7 @@ use mathlib.Core.Path.{_∙_, _≡_, ap, subst, sym}
 use Prim.Native.Nat.{_*_, _+_, _-_, _<_, _≤_, suc, ℕ}
 use native.Mathlib.Numerals.{add-one}
 use native.Mathlib.Omega.{arith}
-use lib.ListN.{drop, drop-of-length-le, getD, length, length-set, set}
+use lib.ListN.{drop, drop-of-length-le, length, length-set, set}
 use lib.Seq.{drop-cons, drop-set-lt}
 use Rattle.lent.proofs.Stacks.{push-set}
 use Rattle.theory.proofs.CornerLaws.{next-low, previous-low}
@@ -22,7 +22,7 @@ use Rattle.theory.specs.Walk.{Step, _＠_, bySides, letterAt, marks, tips, walk
 use Rattle.theory.specs.declared.Letter.{Letter}
 use Rattle.theory.specs.declared.Letter.the-variants.{C, E, L, R, S}
 use Rattle.walk.proofs.TableLaws.{mark, marked-past, off-is, on-is, visit, visited-past}
-use Rattle.walk.specs.Table.{Below, Marked, Onward, Standing, Visited, entered, on}
+use Rattle.walk.specs.Table.{Below, Marked, Onward, Standing, Visited, entered, entry, on}
 use types.Kit.{split}
 
 pub few : {lab opp : ℕ → ℕ} {t v g : ℕ} → Sphere lab opp t v g → v ≤ 2 * t
@@ -63,8 +63,10 @@ module _
     waiting-now : drop p (entered work c) ≡ st
     waiting-now = drop-set-lt p work (triangle c) 1 (omega (arith, s .here)) ∙ s .waiting
 
-    letter-now : (a b : Bool) → on (entered work c) (t + vertex vs c) ≡ true → on (entered work c) (triangle (left (opposite os) c)) ≡ a
-        → on (entered work c) (triangle (right (opposite os) c)) ≡ b → letterAt (vertex vs) (opposite os) g steps c ≡ bySides a b
+    letter-now : (a b : Bool) → on (entered work c) (t + vertex vs c) ≡ true
+        → on (entered work c) (triangle (left (opposite os) c)) ≡ a
+        → on (entered work c) (triangle (right (opposite os) c)) ≡ b
+        → letterAt (vertex vs) (opposite os) g steps c ≡ bySides a b
     letter-now a b k el er =
         letter-old (vertex vs) (opposite os) g steps c a b (sym (marked-now (vertex vs c) tip-below) ∙ k)
         (sym (seen-now E (left (opposite os) c) left-in) ∙ el)
@@ -76,7 +78,7 @@ module _
     stand a d k h =
         record { mesh = s .mesh; here = h; visited = seen-now a; marked = k; waiting = waiting-now; below = s .below }
 
-    pub row-C : {n : ℕ} → getD (entered work c) (t + vertex vs c) 0 ≡ 0
+    pub row-C : {n : ℕ} → entry work c (t + vertex vs c) ≡ 0
         → Onward vs os t v g n steps st c C (set (entered work c) (t + vertex vs c) 1) (right (opposite os) c) p n
     row-C {n} k =
         let new = letter-new (vertex vs) (opposite os) g steps c
@@ -88,18 +90,21 @@ module _
             here = right-in;
             visited = visited-past t ((C ＠ c) ∷ steps) (entered work c) (seen-now C) (t + vertex vs c) 1 (omega arith);
             marked = mark vs t v g steps (entered work c) marked-now c tip-below (omega (arith, spare, long));
-            waiting = drop-set-lt p (entered work c) (t + vertex vs c) 1 (omega (arith, spare, tip-below)) ∙ waiting-now;
+            waiting =
+                drop-set-lt p (entered work c) (t + vertex vs c) 1 (omega (arith, spare, tip-below)) ∙ waiting-now;
             below = s .below;
           };
           goes = walk-C (vertex vs) (opposite os) g steps c n st new;
         }
 
-    module _ (k : getD (entered work c) (t + vertex vs c) 0 ≢ 0) where
+    module _ (k : entry work c (t + vertex vs c) ≢ 0) where
       old : on (entered work c) (t + vertex vs c) ≡ true
       old = on-is (entered work c) (t + vertex vs c) k
 
-      pub row-S : {n : ℕ} → getD (entered work c) (triangle (left (opposite os) c)) 0 ≡ 0 → getD (entered work c) (triangle (right (opposite os) c)) 0 ≡ 0
-          → Onward vs os t v g n steps st c S (set (entered work c) (p - 1) (left (opposite os) c)) (right (opposite os) c) (p - 1) n
+      pub row-S : {n : ℕ} → entry work c (triangle (left (opposite os) c)) ≡ 0
+          → entry work c (triangle (right (opposite os) c)) ≡ 0
+          → Onward vs os t v g n steps st c S (set (entered work c) (p - 1) (left (opposite os) c))
+          (right (opposite os) c) (p - 1) n
       unfolding marks tips bySides
       row-S {n} el er =
           let l = left (opposite os) c in
@@ -111,13 +116,16 @@ module _
               here = right-in;
               visited = visited-past t ((S ＠ c) ∷ steps) (entered work c) (seen-now S) (p - 1) l (omega arith);
               marked = marked-past vs t v g steps (entered work c) marked-now (p - 1) l (inr (omega (arith, spare)));
-              waiting = push-set (entered work c) p l (omega arith) (omega (arith, long)) ∙ ap (λ (y : List ℕ). l ∷ y) waiting-now;
+              waiting =
+                  push-set (entered work c) p l (omega arith) (omega (arith, long))
+                  ∙ ap (λ (y : List ℕ). l ∷ y) waiting-now;
               below = (left-in, s .below);
             };
             goes = walk-S (vertex vs) (opposite os) g steps c n st split;
           }
 
-      pub row-R : {n : ℕ} → getD (entered work c) (triangle (left (opposite os) c)) 0 ≡ 0 → getD (entered work c) (triangle (right (opposite os) c)) 0 ≢ 0
+      pub row-R : {n : ℕ} → entry work c (triangle (left (opposite os) c)) ≡ 0
+          → entry work c (triangle (right (opposite os) c)) ≢ 0
           → Onward vs os t v g n steps st c R (entered work c) (left (opposite os) c) p n
       unfolding marks tips bySides
       row-R {n} el er =
@@ -129,7 +137,8 @@ module _
                 (letter-now false true old (off-is (entered work c) _ el) (on-is (entered work c) _ er));
           }
 
-      pub row-L : {n : ℕ} → getD (entered work c) (triangle (left (opposite os) c)) 0 ≢ 0 → getD (entered work c) (triangle (right (opposite os) c)) 0 ≡ 0
+      pub row-L : {n : ℕ} → entry work c (triangle (left (opposite os) c)) ≢ 0
+          → entry work c (triangle (right (opposite os) c)) ≡ 0
           → Onward vs os t v g n steps st c L (entered work c) (right (opposite os) c) p n
       unfolding marks tips bySides
       row-L {n} el er =
@@ -141,18 +150,22 @@ module _
                 (letter-now true false old (on-is (entered work c) _ el) (off-is (entered work c) _ er));
           }
 
-      module _ (el : getD (entered work c) (triangle (left (opposite os) c)) 0 ≢ 0) (er : getD (entered work c) (triangle (right (opposite os) c)) 0 ≢ 0) where
+      module _
+          (el : entry work c (triangle (left (opposite os) c)) ≢ 0)
+          (er : entry work c (triangle (right (opposite os) c)) ≢ 0) where
         ended : letterAt (vertex vs) (opposite os) g steps c ≡ E
         unfolding bySides
         ended = letter-now true true old (on-is (entered work c) _ el) (on-is (entered work c) _ er)
 
-        pub row-E : {n : ℕ} → p < length (entered work c) → Onward vs os t v g n steps st c E (entered work c) (getD (entered work c) p 0) (p + 1) n
+        pub row-E : {n : ℕ} → p < length (entered work c)
+            → Onward vs os t v g n steps st c E (entered work c) (entry work c p) (p + 1) n
         unfolding marks tips
         row-E {n} h =
-            let e : st ≡ getD (entered work c) p 0 ∷ drop (suc p) (entered work c) = sym waiting-now ∙ drop-cons (entered work c) p 0 h in
-            let b : Below (3 * t) (getD (entered work c) p 0 ∷ drop (suc p) (entered work c)) = subst (Below (3 * t)) e (s .below) in
+            let under = drop (suc p) (entered work c) in
+            let e : st ≡ entry work c p ∷ under = sym waiting-now ∙ drop-cons (entered work c) p 0 h in
+            let b : Below (3 * t) (entry work c p ∷ under) = subst (Below (3 * t)) e (s .below) in
             record {
-              waits = drop (suc p) (entered work c);
+              waits = under;
               stands = record {
                 mesh = s .mesh;
                 here = b .0;
@@ -163,7 +176,7 @@ module _
               };
               goes =
                   ap (λ (y : List ℕ). walk (vertex vs) (opposite os) g (suc n) steps y c) e
-                  ∙ walk-E (vertex vs) (opposite os) g steps c n (drop (suc p) (entered work c)) (getD (entered work c) p 0) ended;
+                  ∙ walk-E (vertex vs) (opposite os) g steps c n under (entry work c p) ended;
             }
 
         pub row-end : {n : ℕ} → length (entered work c) ≤ p → Onward vs os t v g n steps st c E (entered work c) c p 0
@@ -172,7 +185,9 @@ module _
             let e : st ≡ [] = sym waiting-now ∙ drop-of-length-le (entered work c) h in
             record {
               waits = [];
-              stands = subst (λ (y : List ℕ). Standing vs os t v g ((E ＠ c) ∷ steps) y (entered work c) c p) e (stand E c marked-now (s .here));
+              stands =
+                  subst (λ (y : List ℕ). Standing vs os t v g ((E ＠ c) ∷ steps) y (entered work c) c p) e
+                  (stand E c marked-now (s .here));
               goes =
                   ap (λ (y : List ℕ). walk (vertex vs) (opposite os) g (suc n) steps y c) e
                   ∙ walk-end (vertex vs) (opposite os) g steps c n [] c ended;

@@ -21,13 +21,15 @@ module _ (vs os : List ℕ) (e : shapeOk vs os ≡ true) where
       let b = eqb (length vs % 3) 0 in
       let d = countOk (length vs / 3) in
       let r = and-right a (b && d) e in
-      ((eqb-true (length vs) (length os) (and-left a (b && d) e), eqb-true (length vs % 3) 0 (and-left b d r)), and-right b d r)
+      let same = eqb-true (length vs) (length os) (and-left a (b && d) e) in
+      ((same, eqb-true (length vs % 3) 0 (and-left b d r)), and-right b d r)
 
   pub shape-small : length vs / 3 ≤ 65536
   unfolding countOk
   shape-small =
       let t = length vs / 3 in
-      leb-true t 65536 (and-right (leb 2 t) (leb t 65536) (and-right (eqb (t % 2) 0) (leb 2 t && leb t 65536) (lengths .1)))
+      let q = and-right (eqb (t % 2) 0) (leb 2 t && leb t 65536) (lengths .1) in
+      leb-true t 65536 (and-right (leb 2 t) (leb t 65536) q)
 
   pub shape-vertices : length vs ≡ 3 * (length vs / 3)
   shape-vertices = omega (arith, lengths .0 .1)

@@ -6,13 +6,13 @@ use mathlib.Core.Logic.{_≢_}
 use mathlib.Core.Path.{_≡_}
 use Prim.Native.Nat.{_+_, _-_, _<_, _≤_, ℕ}
 use native.Mathlib.Omega.{arith}
-use lib.ListN.{getD, length, length-set, set}
+use lib.ListN.{length, length-set, set}
 use Rattle.theory.specs.Corner.{left, opposite, right, triangle, vertex}
 use Rattle.theory.specs.Letter.{letter}
 use Rattle.theory.specs.declared.Letter.the-variants.{C, E, L, R, S}
 use Rattle.walk.proofs.Rows.{row-C, row-E, row-L, row-R, row-S, row-end}
 use Rattle.walk.specs.Calls.{Steppable, Stepped}
-use Rattle.walk.specs.Table.{entered}
+use Rattle.walk.specs.Table.{entered, entry}
 
 module _
     {vs os : List ℕ}
@@ -23,7 +23,7 @@ module _
     (eu : u ≡ vertex vs c)
     (el : l ≡ left (opposite os) c)
     (er : r ≡ right (opposite os) c) where
-  pub did-C : {n : ℕ} → getD (entered work c) (t + u) 0 ≡ 0
+  pub did-C : {n : ℕ} → entry work c (t + u) ≡ 0
       → Stepped vs os t n c p work (record { letter = C; at = r; top = p; more = n }) (set (entered work c) (t + u) 1)
   did-C k =
       record {
@@ -33,12 +33,13 @@ module _
         fewer = omega arith;
       }
 
-  module _ (k : getD (entered work c) (t + u) 0 ≢ 0) where
-    old : getD (entered work c) (t + vertex vs c) 0 ≢ 0
+  module _ (k : entry work c (t + u) ≢ 0) where
+    old : entry work c (t + vertex vs c) ≢ 0
     old = rw (← eu) k
 
-    pub did-S : {n : ℕ} → getD (entered work c) (triangle l) 0 ≡ 0 → getD (entered work c) (triangle r) 0 ≡ 0
-        → Stepped vs os t n c p work (record { letter = S; at = r; top = p - 1; more = n }) (set (entered work c) (p - 1) l)
+    pub did-S : {n : ℕ} → entry work c (triangle l) ≡ 0 → entry work c (triangle r) ≡ 0
+        → Stepped vs os t n c p work (record { letter = S; at = r; top = p - 1; more = n })
+        (set (entered work c) (p - 1) l)
     did-S a b =
         record {
           onward = λ v g steps st s. rw (el, er) (row-S s (h .room) (h .within) old (rw el at a) (rw er at b));
@@ -47,7 +48,7 @@ module _
           fewer = omega arith;
         }
 
-    pub did-R : {n : ℕ} → getD (entered work c) (triangle l) 0 ≡ 0 → getD (entered work c) (triangle r) 0 ≢ 0
+    pub did-R : {n : ℕ} → entry work c (triangle l) ≡ 0 → entry work c (triangle r) ≢ 0
         → Stepped vs os t n c p work (record { letter = R; at = l; top = p; more = n }) (entered work c)
     did-R a b =
         record {
@@ -57,7 +58,7 @@ module _
           fewer = omega arith;
         }
 
-    pub did-L : {n : ℕ} → getD (entered work c) (triangle l) 0 ≢ 0 → getD (entered work c) (triangle r) 0 ≡ 0
+    pub did-L : {n : ℕ} → entry work c (triangle l) ≢ 0 → entry work c (triangle r) ≡ 0
         → Stepped vs os t n c p work (record { letter = L; at = r; top = p; more = n }) (entered work c)
     did-L a b =
         record {
@@ -67,7 +68,8 @@ module _
           fewer = omega arith;
         }
 
-    pub did-E : {n d : ℕ} → getD (entered work c) (triangle l) 0 ≢ 0 → getD (entered work c) (triangle r) 0 ≢ 0 → d ≡ getD (entered work c) p 0 → p < length (entered work c)
+    pub did-E : {n d : ℕ} → entry work c (triangle l) ≢ 0 → entry work c (triangle r) ≢ 0
+        → d ≡ entry work c p → p < length (entered work c)
         → Stepped vs os t n c p work (record { letter = E; at = d; top = p + 1; more = n }) (entered work c)
     did-E a b e w =
         record {
@@ -77,7 +79,7 @@ module _
           fewer = omega arith;
         }
 
-    pub did-end : {n : ℕ} → getD (entered work c) (triangle l) 0 ≢ 0 → getD (entered work c) (triangle r) 0 ≢ 0 → length (entered work c) ≤ p
+    pub did-end : {n : ℕ} → entry work c (triangle l) ≢ 0 → entry work c (triangle r) ≢ 0 → length (entered work c) ≤ p
         → Stepped vs os t n c p work (record { letter = E; at = c; top = p; more = 0 }) (entered work c)
     did-end a b w =
         record {

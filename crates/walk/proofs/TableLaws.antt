@@ -46,7 +46,9 @@ blank-off n i = go (decLt i n)
   where
     go : Dec (i < n) → on (replicate n 0) i ≡ false
     go (yes h) = off-is (replicate n 0) i (getD-replicate n i 0 0 h)
-    go (no h) = off-is (replicate n 0) i (List·getD-eq-default (replicate n 0) 0 (rw (length-replicate {A = ℕ} n 0) (omega arith)))
+    go (no h) =
+        let long : length {A = ℕ} (replicate n 0) ≡ n = length-replicate {A = ℕ} n 0 in
+        off-is (replicate n 0) i (List·getD-eq-default (replicate n 0) 0 (omega arith))
 
 eqb-add : (t u a : ℕ) → eqb (t + u) (t + a) ≡ eqb u a
 eqb-add t u a = go (ℕ-discrete u a)
@@ -59,7 +61,8 @@ module _ (t : ℕ) (steps : List Step) (work : List ℕ) (m : Visited t steps wo
   pub visit : (a : Letter) (c : ℕ) → c < 3 * t → t ≤ length work → Visited t ((a ＠ c) ∷ steps) (set work (triangle c) 1)
   unfolding seen
   visit a c h room d b =
-      on-set work (triangle c) (triangle d) (omega arith) ∙ ap (λ (y : Bool). eqb (triangle d) (triangle c) || y) (m d b)
+      on-set work (triangle c) (triangle d) (omega arith)
+      ∙ ap (λ (y : Bool). eqb (triangle d) (triangle c) || y) (m d b)
 
   pub visited-past : (i x : ℕ) → t ≤ i → Visited t steps (set work i x)
   visited-past i x h d b = on-other work i (triangle d) x (λ e. omega arith) ∙ m d b
@@ -80,11 +83,13 @@ module _ (vs : List ℕ) (t v g : ℕ) (steps : List Step) (work : List ℕ) (m 
       away (inl k) e = omega arith
       away (inr k) e = omega arith
 
-  pub mark : (c : ℕ) → vertex vs c < v → t + v ≤ length work → Marked vs t v g ((C ＠ c) ∷ steps) (set work (t + vertex vs c) 1)
+  pub mark : (c : ℕ) → vertex vs c < v → t + v ≤ length work
+      → Marked vs t v g ((C ＠ c) ∷ steps) (set work (t + vertex vs c) 1)
   unfolding marks tips mem
   mark c h room u b =
       rw (on-set work (t + vertex vs c) (t + u) (omega arith), eqb-add t u (vertex vs c), m u b)
-      (third (eqb u (vertex vs (next g))) (eqb u (vertex vs (previous g))) (eqb u (vertex vs c)) (mem u (tips (vertex vs) steps)))
+      (third (eqb u (vertex vs (next g))) (eqb u (vertex vs (previous g))) (eqb u (vertex vs c))
+      (mem u (tips (vertex vs) steps)))
 
 -- ---- no step is made
 
@@ -94,17 +99,26 @@ swap true false = refl
 swap false true = refl
 swap false false = refl
 
-module _ (vs : List ℕ) (t v g n : ℕ) (room : t + v ≤ n) (a : vertex vs (next g) < v) (b : vertex vs (previous g) < v) where
+module _
+    (vs : List ℕ)
+    (t v g n : ℕ)
+    (room : t + v ≤ n)
+    (a : vertex vs (next g) < v)
+    (b : vertex vs (previous g) < v) where
+  -- after the first store
+  abbrev half : List ℕ
+  half = set (replicate n 0) (t + vertex vs (next g)) 1
+
   long : length {A = ℕ} (replicate n 0) ≡ n
   long = length-replicate {A = ℕ} n 0
 
-  longer : length {A = ℕ} (set (replicate n 0) (t + vertex vs (next g)) 1) ≡ n
+  longer : length half ≡ n
   longer = length-set (replicate n 0) (t + vertex vs (next g)) 1 ∙ long
 
   pub no-visits : Visited t [] (gateIn vs t g (replicate n 0))
   unfolding seen
   no-visits =
-      visited-past t [] (set (replicate n 0) (t + vertex vs (next g)) 1)
+      visited-past t [] half
       (visited-past t [] (replicate n 0) (λ d h. blank-off n (triangle d)) (t + vertex vs (next g)) 1 (omega arith))
       (t + vertex vs (previous g)) 1 (omega arith)
 
@@ -112,7 +126,7 @@ module _ (vs : List ℕ) (t v g n : ℕ) (room : t + v ≤ n) (a : vertex vs (ne
   unfolding marks tips mem
   gate u h =
       rw (
-        on-set (set (replicate n 0) (t + vertex vs (next g)) 1) (t + vertex vs (previous g)) (t + u) (omega (arith, longer)),
+        on-set half (t + vertex vs (previous g)) (t + u) (omega (arith, longer)),
         on-set (replicate n 0) (t + vertex vs (next g)) (t + u) (omega (arith, long)),
         eqb-add t u (vertex vs (previous g)),
         eqb-add t u (vertex vs (next g)),

@@ -1,14 +1,15 @@
--- What the walk keeps in its work table: t numbers for the triangles, v for the vertices, and from p on the waiting lefts.
+-- What the walk keeps in its work table: t numbers for the triangles, v for the vertices, from p on the waiting lefts.
 --
 --   on work i     entry i is not 0
 --   Visited       entry k is on exactly if triangle k is visited
 --   Marked        entry t + u is on exactly if vertex u is marked
 --   Below m st    every number of st is below m
---   entered       the table with one triangle more visited
---   gateIn        the table with the gate's two ends marked
+--   entered       the table with the triangle of corner c visited
+--   entry         entry i of it
+--   gateIn        the table with the two ends of the gate corner's edge marked
 --   Standing      the table, the corner c and the stack's top p stand for some steps and some waiting lefts
---   Onward        what a step at corner c leads to: its letter, the table after it, the next corner, the stack's top, and
---                 how many steps may still follow
+--   Onward        what a step at corner c leads to: its letter, the table after it, the next corner, the stack's top,
+--                 and how many steps may still follow
 use mathlib.Core.Bool.{Bool, not}
 use mathlib.Core.List.{List, [], _∷_}
 use mathlib.Core.Path.{_≡_}
@@ -34,11 +35,12 @@ abbrev pub Below : ℕ → List ℕ → Type 0
 Below m [] = Unit
 Below m (d ∷ st) = (d < m) × Below m st
 
--- triangle of corner c visited
 abbrev pub entered : List ℕ → ℕ → List ℕ
 entered work c = set work (triangle c) 1
 
--- the two ends of the gate corner's edge marked
+abbrev pub entry : List ℕ → ℕ → ℕ → ℕ
+entry work c i = getD (entered work c) i 0
+
 abbrev pub gateIn : List ℕ → ℕ → ℕ → List ℕ → List ℕ
 gateIn vs t g work = set (set work (t + vertex vs (next g)) 1) (t + vertex vs (previous g)) 1
 

@@ -22,7 +22,8 @@ returns : tie.Need-returns
 returns c =
     let m = c .before .before .before .before .before .before in
     let q = m .before .before in
-    rw (← q .before .next-of .ensures, ← q .previous-of .ensures, ← m .mark-tip .ensures) (c .before .before .mark-tip2 .ensures)
+    rw (← q .before .next-of .ensures, ← q .previous-of .ensures, ← m .mark-tip .ensures)
+    (c .before .before .mark-tip2 .ensures)
 
 pub mark-gate-spec : {M : Type 1} → statement M
 mark-gate-spec =

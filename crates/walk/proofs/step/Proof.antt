@@ -50,9 +50,8 @@ returns : tie.Need-returns
 returns c =
     let r = c .before .before in
     let w = r .before .before in
-    let s = w .before .before .before .before .before in
-    did-C (s .pre) (w .wide .ensures) (r .before .left-of .ensures .0) (r .right-of .ensures .0)
-    (c .if1 .taken)
+    did-C (w .before .before .before .before .before .pre) (w .wide .ensures) (r .before .left-of .ensures .0)
+    (r .right-of .ensures .0) (c .if1 .taken)
 
 mul-if2 : tie.Need-mul-if2
 mul-if2 c = search needs
@@ -86,22 +85,24 @@ same-length-2 c = search needs
 
 returns-2 : tie.Need-returns-2
 returns-2 c =
-    let r = c .before .before .before .before .before .before in
+    let b = c .before .before in
+    let a = b .before .before in
+    let r = a .before .before in
     let w = r .before .before in
-    let s = w .before .before .before .before .before in
-    did-S (s .pre) (w .wide .ensures) (r .before .left-of .ensures .0) (r .right-of .ensures .0)
-    (c .before .before .before .before .if1 .left) (c .before .before .if2 .taken) (c .if3 .taken)
+    did-S (w .before .before .before .before .before .pre) (w .wide .ensures) (r .before .left-of .ensures .0)
+    (r .right-of .ensures .0) (a .if1 .left) (b .if2 .taken) (c .if3 .taken)
 
 same-length-3 : tie.Need-same-length-3
 same-length-3 c = search needs
 
 returns-3 : tie.Need-returns-3
 returns-3 c =
-    let r = c .before .before .before .before .before .before in
+    let b = c .before .before in
+    let a = b .before .before in
+    let r = a .before .before in
     let w = r .before .before in
-    let s = w .before .before .before .before .before in
-    did-R (s .pre) (w .wide .ensures) (r .before .left-of .ensures .0) (r .right-of .ensures .0)
-    (c .before .before .before .before .if1 .left) (c .before .before .if2 .taken) (c .if3 .left)
+    did-R (w .before .before .before .before .before .pre) (w .wide .ensures) (r .before .left-of .ensures .0)
+    (r .right-of .ensures .0) (a .if1 .left) (b .if2 .taken) (c .if3 .left)
 
 mul-if4 : tie.Need-mul-if4
 mul-if4 c = search needs
@@ -114,11 +115,12 @@ same-length-4 c = search needs
 
 returns-4 : tie.Need-returns-4
 returns-4 c =
-    let r = c .before .before .before .before .before .before in
+    let b = c .before .before in
+    let a = b .before .before in
+    let r = a .before .before in
     let w = r .before .before in
-    let s = w .before .before .before .before .before in
-    did-L (s .pre) (w .wide .ensures) (r .before .left-of .ensures .0) (r .right-of .ensures .0)
-    (c .before .before .before .before .if1 .left) (c .before .before .if2 .left) (c .if4 .taken)
+    did-L (w .before .before .before .before .before .pre) (w .wide .ensures) (r .before .left-of .ensures .0)
+    (r .right-of .ensures .0) (a .if1 .left) (b .if2 .left) (c .if4 .taken)
 
 mul-wide-2 : tie.Need-mul-wide-2
 mul-wide-2 c = search needs
@@ -137,22 +139,27 @@ same-length-5 c = search needs
 
 returns-5 : tie.Need-returns-5
 returns-5 c =
-    let r = c .before .before .before .before .before .before .before .before .before in
+    let e = c .before .before in
+    let d = e .before in
+    let b = d .before .before in
+    let a = b .before .before in
+    let r = a .before .before in
     let w = r .before .before in
-    let s = w .before .before .before .before .before in
-    did-E (s .pre) (w .wide .ensures) (r .before .left-of .ensures .0) (r .right-of .ensures .0)
-    (c .before .before .before .before .before .before .before .if1 .left) (c .before .before .before .before .before .if2 .left) (c .before .before .before .if4 .left) (c .wide2 .ensures) (c .before .before .if5 .taken)
+    did-E (w .before .before .before .before .before .pre) (w .wide .ensures) (r .before .left-of .ensures .0)
+    (r .right-of .ensures .0) (a .if1 .left) (b .if2 .left) (d .if4 .left) (c .wide2 .ensures) (e .if5 .taken)
 
 same-length-6 : tie.Need-same-length-6
 same-length-6 c = search needs
 
 returns-6 : tie.Need-returns-6
 returns-6 c =
-    let r = c .before .before .before .before .before .before .before in
+    let d = c .before in
+    let b = d .before .before in
+    let a = b .before .before in
+    let r = a .before .before in
     let w = r .before .before in
-    let s = w .before .before .before .before .before in
-    did-end (s .pre) (w .wide .ensures) (r .before .left-of .ensures .0) (r .right-of .ensures .0)
-    (c .before .before .before .before .before .if1 .left) (c .before .before .before .if2 .left) (c .before .if4 .left) (c .if5 .left)
+    did-end (w .before .before .before .before .before .pre) (w .wide .ensures) (r .before .left-of .ensures .0)
+    (r .right-of .ensures .0) (a .if1 .left) (b .if2 .left) (d .if4 .left) (c .if5 .left)
 
 pub step-spec : {M : Type 1} → statement M
 step-spec =

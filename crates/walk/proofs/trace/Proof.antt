@@ -17,12 +17,15 @@ wide-requires : tie.Need-wide-requires Inv-loop μ-loop
 wide-requires c κs = search needs
 
 mark-gate-requires : tie.Need-mark-gate-requires Inv-loop μ-loop
-mark-gate-requires c κs = gated (c .before .before .before .before .before .before .before .pre) (c .before .wide .ensures)
+mark-gate-requires c κs =
+    let w = c .before in
+    gated (w .before .before .before .before .before .before .pre) (w .wide .ensures)
 
 loop-holds : tie.Need-loop-holds Inv-loop μ-loop
 loop-holds c =
-    let s = c .before .before .before .before in
-    start (s .before .before .before .before .before .before .pre) (s .wide .ensures) (c .before .before .mark-gate .ensures)
+    let w = c .before .before .before .before in
+    start (w .before .before .before .before .before .before .pre) (w .wide .ensures)
+    (c .before .before .mark-gate .ensures)
 
 cast-walk : tie.Need-cast-walk Inv-loop μ-loop
 cast-walk c = let h = corner-fits (c .before .loop .inv) in omega arith
@@ -44,20 +47,22 @@ byte-of-requires c κs = search needs
 
 slice-write-letters : tie.Need-slice-write-letters Inv-loop μ-loop
 slice-write-letters c =
-    let l = c .before .before .before .before .before .before in
-    room-letters (l .loop .inv) (c .before .before .before .before .before .loop-test .taken)
+    let i = c .before .before .before .before .before in
+    room-letters (i .before .loop .inv) (i .loop-test .taken)
 
 add-k : tie.Need-add-k Inv-loop μ-loop
 add-k c = search needs
 
 loop-less : tie.Need-loop-less Inv-loop μ-loop
-loop-less c = omega (arith, c .before .before .before .before .before .loop-test .taken, c .before .before .before .step .ensures .fewer)
+loop-less c =
+    let s = c .before .before .before in
+    omega (arith, s .before .before .loop-test .taken, s .step .ensures .fewer)
 
 loop-again : tie.Need-loop-again Inv-loop μ-loop
 loop-again c =
-    let l = c .before .before .before .before .before .before in
     let s = c .before .before .before in
-    turn (l .loop .inv) (s .before .before .loop-test .taken) (c .byte-of .ensures) (s .step .kept .1 .1 .0) (s .step .ensures)
+    let i = s .before .before in
+    turn (i .before .loop .inv) (i .loop-test .taken) (c .byte-of .ensures) (s .step .kept .1 .1 .0) (s .step .ensures)
 
 same-length : tie.Need-same-length Inv-loop μ-loop
 same-length c = c .before .loop .inv .said .same
