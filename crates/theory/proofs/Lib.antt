@@ -21,6 +21,7 @@ pub mod Swings
 pub mod HoldsWord
 pub mod Reaches
 pub mod Homes
+pub mod WalkLaws
 pub mod WalkLetters
 pub mod WalkBack
 pub mod WordSteps
@@ -28,5 +29,4 @@ pub mod WordTables
 pub mod WordRings
 pub mod ReadMesh
 pub mod CallLaws
-pub mod WalkLaws
 pub mod Marked

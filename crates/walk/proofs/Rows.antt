@@ -15,14 +15,15 @@ use lib.ListN.{drop, drop-of-length-le, length, length-set, set}
 use lib.Seq.{drop-cons, drop-set-lt}
 use Rattle.lent.proofs.Stacks.{push-set}
 use Rattle.theory.proofs.CornerLaws.{next-low, previous-low}
-use Rattle.theory.proofs.WalkLaws.{letter-new, letter-old, walk-C, walk-E, walk-L, walk-R, walk-S, walk-end}
+use Rattle.theory.proofs.WalkBack.{onward, takeLeft, walk-step}
+use Rattle.theory.proofs.WalkLaws.{letter-new, letter-old}
 use Rattle.theory.specs.Corner.{left, next, opposite, previous, right, triangle, vertex}
-use Rattle.theory.specs.Mesh.{Sphere, here}
+use Rattle.theory.specs.Mesh.{Sphere}
 use Rattle.theory.specs.Walk.{Step, _＠_, bySides, letterAt, marks, tips, walk}
 use Rattle.theory.specs.declared.Letter.{Letter}
 use Rattle.theory.specs.declared.Letter.the-variants.{C, E, L, R, S}
 use Rattle.walk.proofs.TableLaws.{mark, marked-past, off-is, on-is, visit, visited-past}
-use Rattle.walk.specs.Table.{Below, Marked, Onward, Standing, Visited, entered, entry, on}
+use Rattle.walk.specs.Table.{Below, MarkedIn, Onward, SeenIn, Standing, entered, entry, on}
 use types.Kit.{split}
 
 pub few : {lab opp : ℕ → ℕ} {t v g : ℕ} → Sphere lab opp t v g → v ≤ 2 * t
@@ -54,10 +55,10 @@ module _
     spare : t + v ≤ 3 * t
     spare = omega (arith, few (s .mesh))
 
-    seen-now : (a : Letter) → Visited t ((a ＠ c) ∷ steps) (entered work c)
+    seen-now : (a : Letter) → SeenIn t ((a ＠ c) ∷ steps) (entered work c)
     seen-now a = visit t steps work (s .visited) a c (s .here) (omega arith)
 
-    marked-now : Marked vs t v g steps (entered work c)
+    marked-now : MarkedIn vs t v g steps (entered work c)
     marked-now = marked-past vs t v g steps work (s .marked) (triangle c) 1 (inl (omega (arith, s .here)))
 
     waiting-now : drop p (entered work c) ≡ st
@@ -73,13 +74,14 @@ module _
         (sym (seen-now E (right (opposite os) c) right-in) ∙ er)
 
     -- after a step that stores nothing more
-    stand : (a : Letter) (d : ℕ) → Marked vs t v g ((a ＠ c) ∷ steps) (entered work c) → d < 3 * t
+    stand : (a : Letter) (d : ℕ) → MarkedIn vs t v g ((a ＠ c) ∷ steps) (entered work c) → d < 3 * t
         → Standing vs os t v g ((a ＠ c) ∷ steps) st (entered work c) d p
     stand a d k h =
         record { mesh = s .mesh; here = h; visited = seen-now a; marked = k; waiting = waiting-now; below = s .below }
 
     pub row-C : {n : ℕ} → entry work c (t + vertex vs c) ≡ 0
         → Onward vs os t v g n steps st c C (set (entered work c) (t + vertex vs c) 1) (right (opposite os) c) p n
+    unfolding onward
     row-C {n} k =
         let new = letter-new (vertex vs) (opposite os) g steps c
         (sym (marked-now (vertex vs c) tip-below) ∙ off-is (entered work c) (t + vertex vs c) k) in
@@ -94,7 +96,7 @@ module _
                 drop-set-lt p (entered work c) (t + vertex vs c) 1 (omega (arith, spare, tip-below)) ∙ waiting-now;
             below = s .below;
           };
-          goes = walk-C (vertex vs) (opposite os) g steps c n st new;
+          goes = walk-step (vertex vs) (opposite os) g C n steps st c new;
         }
 
     module _ (k : entry work c (t + vertex vs c) ≢ 0) where
@@ -105,7 +107,7 @@ module _
           → entry work c (triangle (right (opposite os) c)) ≡ 0
           → Onward vs os t v g n steps st c S (set (entered work c) (p - 1) (left (opposite os) c))
           (right (opposite os) c) (p - 1) n
-      unfolding marks tips bySides
+      unfolding marks tips bySides onward
       row-S {n} el er =
           let l = left (opposite os) c in
           let split = letter-now false false old (off-is (entered work c) _ el) (off-is (entered work c) _ er) in
@@ -121,32 +123,32 @@ module _
                   ∙ ap (λ (y : List ℕ). l ∷ y) waiting-now;
               below = (left-in, s .below);
             };
-            goes = walk-S (vertex vs) (opposite os) g steps c n st split;
+            goes = walk-step (vertex vs) (opposite os) g S n steps st c split;
           }
 
       pub row-R : {n : ℕ} → entry work c (triangle (left (opposite os) c)) ≡ 0
           → entry work c (triangle (right (opposite os) c)) ≢ 0
           → Onward vs os t v g n steps st c R (entered work c) (left (opposite os) c) p n
-      unfolding marks tips bySides
+      unfolding marks tips bySides onward
       row-R {n} el er =
           record {
             waits = st;
             stands = stand R (left (opposite os) c) marked-now left-in;
             goes =
-                walk-R (vertex vs) (opposite os) g steps c n st
+                walk-step (vertex vs) (opposite os) g R n steps st c
                 (letter-now false true old (off-is (entered work c) _ el) (on-is (entered work c) _ er));
           }
 
       pub row-L : {n : ℕ} → entry work c (triangle (left (opposite os) c)) ≢ 0
           → entry work c (triangle (right (opposite os) c)) ≡ 0
           → Onward vs os t v g n steps st c L (entered work c) (right (opposite os) c) p n
-      unfolding marks tips bySides
+      unfolding marks tips bySides onward
       row-L {n} el er =
           record {
             waits = st;
             stands = stand L (right (opposite os) c) marked-now right-in;
             goes =
-                walk-L (vertex vs) (opposite os) g steps c n st
+                walk-step (vertex vs) (opposite os) g L n steps st c
                 (letter-now true false old (on-is (entered work c) _ el) (off-is (entered work c) _ er));
           }
 
@@ -159,7 +161,7 @@ module _
 
         pub row-E : {n : ℕ} → p < length (entered work c)
             → Onward vs os t v g n steps st c E (entered work c) (entry work c p) (p + 1) n
-        unfolding marks tips
+        unfolding marks tips onward takeLeft
         row-E {n} h =
             let under = drop (suc p) (entered work c) in
             let e : st ≡ entry work c p ∷ under = sym waiting-now ∙ drop-cons (entered work c) p 0 h in
@@ -176,11 +178,11 @@ module _
               };
               goes =
                   ap (λ (y : List ℕ). walk (vertex vs) (opposite os) g (suc n) steps y c) e
-                  ∙ walk-E (vertex vs) (opposite os) g steps c n under (entry work c p) ended;
+                  ∙ walk-step (vertex vs) (opposite os) g E n steps (entry work c p ∷ under) c ended;
             }
 
         pub row-end : {n : ℕ} → length (entered work c) ≤ p → Onward vs os t v g n steps st c E (entered work c) c p 0
-        unfolding marks tips
+        unfolding marks tips onward takeLeft walk
         row-end {n} h =
             let e : st ≡ [] = sym waiting-now ∙ drop-of-length-le (entered work c) h in
             record {
@@ -190,5 +192,5 @@ module _
                   (stand E c marked-now (s .here));
               goes =
                   ap (λ (y : List ℕ). walk (vertex vs) (opposite os) g (suc n) steps y c) e
-                  ∙ walk-end (vertex vs) (opposite os) g steps c n [] c ended;
+                  ∙ walk-step (vertex vs) (opposite os) g E n steps [] c ended;
             }

@@ -27,7 +27,7 @@ module _
       → Stepped vs os t n c p work (record { letter = C; at = r; top = p; more = n }) (set (entered work c) (t + u) 1)
   did-C k =
       record {
-        onward = λ v g steps st s. rw (eu, er) (row-C s (h .room) (h .within) (rw eu at k));
+        leads = λ v g steps st s. rw (eu, er) (row-C s (h .room) (h .within) (rw eu at k));
         near = omega arith;
         within = h .within;
         fewer = omega arith;
@@ -42,7 +42,7 @@ module _
         (set (entered work c) (p - 1) l)
     did-S a b =
         record {
-          onward = λ v g steps st s. rw (el, er) (row-S s (h .room) (h .within) old (rw el at a) (rw er at b));
+          leads = λ v g steps st s. rw (el, er) (row-S s (h .room) (h .within) old (rw el at a) (rw er at b));
           near = omega (arith, h .room);
           within = omega (arith, h .within);
           fewer = omega arith;
@@ -52,7 +52,7 @@ module _
         → Stepped vs os t n c p work (record { letter = R; at = l; top = p; more = n }) (entered work c)
     did-R a b =
         record {
-          onward = λ v g steps st s. rw el (row-R s (h .room) (h .within) old (rw el at a) (rw er at b));
+          leads = λ v g steps st s. rw el (row-R s (h .room) (h .within) old (rw el at a) (rw er at b));
           near = omega arith;
           within = h .within;
           fewer = omega arith;
@@ -62,7 +62,7 @@ module _
         → Stepped vs os t n c p work (record { letter = L; at = r; top = p; more = n }) (entered work c)
     did-L a b =
         record {
-          onward = λ v g steps st s. rw er (row-L s (h .room) (h .within) old (rw el at a) (rw er at b));
+          leads = λ v g steps st s. rw er (row-L s (h .room) (h .within) old (rw el at a) (rw er at b));
           near = omega arith;
           within = h .within;
           fewer = omega arith;
@@ -73,7 +73,7 @@ module _
         → Stepped vs os t n c p work (record { letter = E; at = d; top = p + 1; more = n }) (entered work c)
     did-E a b e w =
         record {
-          onward = λ v g steps st s. rw e (row-E s (h .room) (h .within) old (rw el at a) (rw er at b) w);
+          leads = λ v g steps st s. rw e (row-E s (h .room) (h .within) old (rw el at a) (rw er at b) w);
           near = omega arith;
           within = omega (arith, length-set work (triangle c) 1);
           fewer = omega arith;
@@ -83,7 +83,7 @@ module _
         → Stepped vs os t n c p work (record { letter = E; at = c; top = p; more = 0 }) (entered work c)
     did-end a b w =
         record {
-          onward = λ v g steps st s. row-end s (h .room) (h .within) old (rw el at a) (rw er at b) w;
+          leads = λ v g steps st s. row-end s (h .room) (h .within) old (rw el at a) (rw er at b) w;
           near = omega arith;
           within = h .within;
           fewer = omega arith;

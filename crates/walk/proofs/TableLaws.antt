@@ -17,12 +17,13 @@ use lib.Dec.{eqb}
 use lib.ListN.{List·getD-eq-default, getD, getD-replicate, length, length-replicate, length-set, replicate, set}
 use lib.Seq.{getD-set-other, getD-set-same}
 use borrow.Author.Tests.{eq-eqb, ne-eqb}
+use Rattle.theory.proofs.WalkLetters.{third-first}
 use Rattle.theory.specs.Corner.{next, previous, triangle, vertex}
 use Rattle.theory.specs.Lists.{mem}
 use Rattle.theory.specs.Walk.{Step, _＠_, marks, seen, tips}
 use Rattle.theory.specs.declared.Letter.{Letter}
 use Rattle.theory.specs.declared.Letter.the-variants.{C}
-use Rattle.walk.specs.Table.{Marked, Visited, gateIn, on}
+use Rattle.walk.specs.Table.{MarkedIn, SeenIn, gateIn, on}
 
 module _ (work : List ℕ) (i : ℕ) where
   pub on-other : (j x : ℕ) → j ≢ i → on (set work i x) j ≡ on work j
@@ -57,26 +58,18 @@ eqb-add t u a = go (ℕ-discrete u a)
     go (yes e) = eq-eqb (t + u) (t + a) (omega arith) ∙ sym (eq-eqb u a e)
     go (no e) = ne-eqb (t + u) (t + a) (λ q. e (omega arith)) ∙ sym (ne-eqb u a e)
 
-module _ (t : ℕ) (steps : List Step) (work : List ℕ) (m : Visited t steps work) where
-  pub visit : (a : Letter) (c : ℕ) → c < 3 * t → t ≤ length work → Visited t ((a ＠ c) ∷ steps) (set work (triangle c) 1)
+module _ (t : ℕ) (steps : List Step) (work : List ℕ) (m : SeenIn t steps work) where
+  pub visit : (a : Letter) (c : ℕ) → c < 3 * t → t ≤ length work → SeenIn t ((a ＠ c) ∷ steps) (set work (triangle c) 1)
   unfolding seen
   visit a c h room d b =
       on-set work (triangle c) (triangle d) (omega arith)
       ∙ ap (λ (y : Bool). eqb (triangle d) (triangle c) || y) (m d b)
 
-  pub visited-past : (i x : ℕ) → t ≤ i → Visited t steps (set work i x)
+  pub visited-past : (i x : ℕ) → t ≤ i → SeenIn t steps (set work i x)
   visited-past i x h d b = on-other work i (triangle d) x (λ e. omega arith) ∙ m d b
 
--- the third of three marks, put first
-third : (a b x y : Bool) → (x || (a || (b || y))) ≡ (a || (b || (x || y)))
-third true b true y = refl
-third true b false y = refl
-third false true true y = refl
-third false true false y = refl
-third false false x y = refl
-
-module _ (vs : List ℕ) (t v g : ℕ) (steps : List Step) (work : List ℕ) (m : Marked vs t v g steps work) where
-  pub marked-past : (i x : ℕ) → (i < t) ⊎ (t + v ≤ i) → Marked vs t v g steps (set work i x)
+module _ (vs : List ℕ) (t v g : ℕ) (steps : List Step) (work : List ℕ) (m : MarkedIn vs t v g steps work) where
+  pub marked-past : (i x : ℕ) → (i < t) ⊎ (t + v ≤ i) → MarkedIn vs t v g steps (set work i x)
   marked-past i x h u b = on-other work i (t + u) x (away h) ∙ m u b
     where
       away : (i < t) ⊎ (t + v ≤ i) → t + u ≢ i
@@ -84,12 +77,12 @@ module _ (vs : List ℕ) (t v g : ℕ) (steps : List Step) (work : List ℕ) (m 
       away (inr k) e = omega arith
 
   pub mark : (c : ℕ) → vertex vs c < v → t + v ≤ length work
-      → Marked vs t v g ((C ＠ c) ∷ steps) (set work (t + vertex vs c) 1)
+      → MarkedIn vs t v g ((C ＠ c) ∷ steps) (set work (t + vertex vs c) 1)
   unfolding marks tips mem
   mark c h room u b =
       rw (on-set work (t + vertex vs c) (t + u) (omega arith), eqb-add t u (vertex vs c), m u b)
-      (third (eqb u (vertex vs (next g))) (eqb u (vertex vs (previous g))) (eqb u (vertex vs c))
-      (mem u (tips (vertex vs) steps)))
+      (sym (third-first (eqb u (vertex vs (next g))) (eqb u (vertex vs (previous g))) (eqb u (vertex vs c))
+      (mem u (tips (vertex vs) steps))))
 
 -- ---- no step is made
 
@@ -115,14 +108,14 @@ module _
   longer : length half ≡ n
   longer = length-set (replicate n 0) (t + vertex vs (next g)) 1 ∙ long
 
-  pub no-visits : Visited t [] (gateIn vs t g (replicate n 0))
+  pub no-visits : SeenIn t [] (gateIn vs t g (replicate n 0))
   unfolding seen
   no-visits =
       visited-past t [] half
       (visited-past t [] (replicate n 0) (λ d h. blank-off n (triangle d)) (t + vertex vs (next g)) 1 (omega arith))
       (t + vertex vs (previous g)) 1 (omega arith)
 
-  pub gate : Marked vs t v g [] (gateIn vs t g (replicate n 0))
+  pub gate : MarkedIn vs t v g [] (gateIn vs t g (replicate n 0))
   unfolding marks tips mem
   gate u h =
       rw (

@@ -14,14 +14,14 @@ use Rattle.theory.proofs.CornerLaws.{next-low, previous-low}
 use Rattle.theory.proofs.LetterLaws.{none}
 use Rattle.theory.specs.Corner.{next, opposite, previous, vertex}
 use Rattle.theory.specs.Letter.{byte}
-use Rattle.theory.specs.Mesh.{Accepted, Sphere, here}
+use Rattle.theory.specs.Mesh.{Accepted, Sphere}
 use Rattle.theory.specs.Walk.{Step, _＠_, cornersOf, lettersOf, meshWalk, walk, walkFrom}
 use Rattle.walk.proofs.Rows.{few, left-in, right-in, tip-fits}
 use Rattle.walk.proofs.Shape.{shape-corners, shape-small, shape-vertices}
 use Rattle.walk.proofs.TableLaws.{gate, no-visits}
 use Rattle.walk.proofs.Written.{Written, begin, whole-is, write}
 use Rattle.walk.specs.Calls.{Steppable, Stepped, Traceable, Traced}
-use Rattle.walk.specs.Table.{Marked, Standing, Visited, gateIn}
+use Rattle.walk.specs.Table.{MarkedIn, SeenIn, Standing, gateIn}
 use Rattle.walk.specs.declared.Spot.{Spot}
 use base.Logic.{ex}
 use types.Kit.{later}
@@ -79,8 +79,8 @@ module _ {vs os : List ℕ} {v g : ℕ} {letters path work : List ℕ} (h : Trac
         stands = record {
           mesh = sphere;
           here = sphere .gate;
-          visited = subst (Visited t []) (sym q) (no-visits vs t v g (length work) fits a b);
-          marked = subst (Marked vs t v g []) (sym q) (gate vs t v g (length work) fits a b);
+          visited = subst (SeenIn t []) (sym q) (no-visits vs t v g (length work) fits a b);
+          marked = subst (MarkedIn vs t v g []) (sym q) (gate vs t v g (length work) fits a b);
           waiting = drop-of-length-le work′ {i = length work} (omega arith);
           below = tt;
         };
@@ -124,7 +124,7 @@ module _ {vs os : List ℕ} {v g : ℕ} {letters₀ path₀ : List ℕ} {long : 
       → Tracing vs os v g letters₀ path₀ long (set letters k x) (set path k c) work′ (r .at) (r .top) (r .more) (k + 1)
   unfolding lettersOf cornersOf
   turn {r} {x} {work′} b ex len s =
-      let o = s .onward v g (i .steps) (i .waits) (i .stands) in
+      let o = s .leads v g (i .steps) (i .waits) (i .stands) in
       let later = ahead vs os g (r .more) ((r .letter ＠ c) ∷ i .steps) (o .waits) (r .at) in
       let z : suc (n - 1) ≡ n = omega arith in
       let e : ahead vs os g n (i .steps) (i .waits) c ≡ (r .letter ＠ c) ∷ later =

@@ -24,7 +24,7 @@ pub record Steppable (vs os : List ℕ) (t c p : ℕ) (work : List ℕ) : Type 0
   pub within : p ≤ length work
 
 pub record Stepped (vs os : List ℕ) (t n c p : ℕ) (work : List ℕ) (r : Spot) (work′ : List ℕ) : Type 0 where
-  pub onward : (v g : ℕ) (steps : List Step) (st : List ℕ) → Standing vs os t v g steps st work c p
+  pub leads : (v g : ℕ) (steps : List Step) (st : List ℕ) → Standing vs os t v g steps st work c p
       → Onward vs os t v g n steps st c (r .letter) work′ (r .at) (r .top) (r .more)
   pub near : p ≤ r .top + 1
   pub within : r .top ≤ length work

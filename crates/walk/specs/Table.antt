@@ -1,8 +1,8 @@
 -- What the walk keeps in its work table: t numbers for the triangles, v for the vertices, from p on the waiting lefts.
 --
 --   on work i     entry i is not 0
---   Visited       entry k is on exactly if triangle k is visited
---   Marked        entry t + u is on exactly if vertex u is marked
+--   SeenIn        entry k is on exactly if triangle k is visited
+--   MarkedIn      entry t + u is on exactly if vertex u is marked
 --   Below m st    every number of st is below m
 --   entered       the table with the triangle of corner c visited
 --   entry         entry i of it
@@ -25,11 +25,11 @@ use Rattle.theory.specs.declared.Letter.{Letter}
 abbrev pub on : List ℕ → ℕ → Bool
 on work i = not (eqb (getD work i 0) 0)
 
-abbrev pub Visited : ℕ → List Step → List ℕ → Type 0
-Visited t steps work = (d : ℕ) → d < 3 * t → on work (triangle d) ≡ seen steps d
+abbrev pub SeenIn : ℕ → List Step → List ℕ → Type 0
+SeenIn t steps work = (d : ℕ) → d < 3 * t → on work (triangle d) ≡ seen steps d
 
-abbrev pub Marked : List ℕ → ℕ → ℕ → ℕ → List Step → List ℕ → Type 0
-Marked vs t v g steps work = (u : ℕ) → u < v → on work (t + u) ≡ mem u (marks (vertex vs) g steps)
+abbrev pub MarkedIn : List ℕ → ℕ → ℕ → ℕ → List Step → List ℕ → Type 0
+MarkedIn vs t v g steps work = (u : ℕ) → u < v → on work (t + u) ≡ mem u (marks (vertex vs) g steps)
 
 abbrev pub Below : ℕ → List ℕ → Type 0
 Below m [] = Unit
@@ -47,8 +47,8 @@ gateIn vs t g work = set (set work (t + vertex vs (next g)) 1) (t + vertex vs (p
 pub record Standing (vs os : List ℕ) (t v g : ℕ) (steps : List Step) (st work : List ℕ) (c p : ℕ) : Type 0 where
   pub mesh : Sphere (vertex vs) (opposite os) t v g
   pub here : c < 3 * t
-  pub visited : Visited t steps work
-  pub marked : Marked vs t v g steps work
+  pub visited : SeenIn t steps work
+  pub marked : MarkedIn vs t v g steps work
   pub waiting : drop p work ≡ st
   pub below : Below (3 * t) st
 
