@@ -24,7 +24,6 @@ use Rattle.theory.specs.declared.Letter.{Letter}
 use Rattle.theory.specs.declared.Letter.the-variants.{C, E, L, R, S}
 use Rattle.walk.proofs.TableLaws.{mark, marked-past, off-is, on-is, visit, visited-past}
 use Rattle.walk.specs.Table.{Below, MarkedIn, Onward, SeenIn, Standing, entered, entry, on}
-use types.Kit.{split}
 
 pub few : {lab opp : ℕ → ℕ} {t v g : ℕ} → Sphere lab opp t v g → v ≤ 2 * t
 few m = omega (arith, m .gate, m .euler)
@@ -110,7 +109,7 @@ module _
       unfolding marks tips bySides onward
       row-S {n} el er =
           let l = left (opposite os) c in
-          let split = letter-now false false old (off-is (entered work c) _ el) (off-is (entered work c) _ er) in
+          let two = letter-now false false old (off-is (entered work c) _ el) (off-is (entered work c) _ er) in
           record {
             waits = l ∷ st;
             stands = record {
@@ -123,7 +122,7 @@ module _
                   ∙ ap (λ (y : List ℕ). l ∷ y) waiting-now;
               below = (left-in, s .below);
             };
-            goes = walk-step (vertex vs) (opposite os) g S n steps st c split;
+            goes = walk-step (vertex vs) (opposite os) g S n steps st c two;
           }
 
       pub row-R : {n : ℕ} → entry work c (triangle (left (opposite os) c)) ≡ 0

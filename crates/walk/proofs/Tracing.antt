@@ -98,8 +98,8 @@ module _ {vs os : List ℕ} {v g : ℕ} {letters path work : List ℕ} (h : Trac
 
 module _ {vs os : List ℕ} {v g : ℕ} {letters₀ path₀ : List ℕ} {long : ℕ} {letters path work : List ℕ} {c p n k : ℕ}
     (i : Tracing vs os v g letters₀ path₀ long letters path work c p n k) where
-  pub corner-fits : c < 4294967296
-  corner-fits = omega (arith, i .stands .here, shape-small vs os (i .mesh .shape))
+  pub at-fits : c < 4294967296
+  at-fits = omega (arith, i .stands .here, shape-small vs os (i .mesh .shape))
 
   pub room-letters : 0 < n → k < length letters
   room-letters b = omega (arith, i .enough .0, i .count, i .said .same)

@@ -2,7 +2,7 @@
 -- The number of steps that may follow falls.
 use native.Mathlib.Omega.{arith}
 use borrow.Author.Needs.{needs}
-use Rattle.walk.proofs.Tracing.{Tracing, corner-fits, end, gated, room-letters, room-path, start, steppable, turn}
+use Rattle.walk.proofs.Tracing.{Tracing, at-fits, end, gated, room-letters, room-path, start, steppable, turn}
 use Rattle.walk.proofs.trace.Statement.{statement}
 use Rattle.walk.proofs.trace.Tie as tie
 
@@ -28,7 +28,7 @@ loop-holds c =
     (c .before .before .mark-gate .ensures)
 
 cast-walk : tie.Need-cast-walk Inv-loop μ-loop
-cast-walk c = let h = corner-fits (c .before .loop .inv) in omega arith
+cast-walk c = let h = at-fits (c .before .loop .inv) in omega arith
 
 mul-walk : tie.Need-mul-walk Inv-loop μ-loop
 mul-walk c = search needs
