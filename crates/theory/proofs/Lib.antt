@@ -27,6 +27,7 @@ pub mod Swings
 pub mod HoldsWord
 pub mod Reaches
 pub mod Homes
+pub mod WalkLaws
 pub mod WalkLetters
 pub mod WalkBack
 pub mod WordSteps
