@@ -14,4 +14,8 @@ pub mod Chain
 pub mod JoinLaws
 pub mod Rows
 pub mod TableRows
+pub mod Places
+pub mod SwingLaws
+pub mod RingTests
+pub mod RingLaws
 pub mod Marked
