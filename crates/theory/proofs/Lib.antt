@@ -18,4 +18,7 @@ pub mod Places
 pub mod SwingLaws
 pub mod RingTests
 pub mod RingLaws
+pub mod Members
+pub mod Facing
+pub mod ReachLaws
 pub mod Marked
