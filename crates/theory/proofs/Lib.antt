@@ -21,4 +21,7 @@ pub mod RingLaws
 pub mod Members
 pub mod Facing
 pub mod ReachLaws
+pub mod MeshLaws
+pub mod Passed
+pub mod MeshMeaning
 pub mod Marked
