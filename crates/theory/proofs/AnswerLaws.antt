@@ -3,13 +3,16 @@
 --   rung-stops rung-passed     any rung, by its place and limit
 --   each-stops each-passed     a check at each of k places
 --   whole-stops whole-passed   a check of the whole
-use mathlib.Core.Bool.{Bool, false, true}
+--   count-few                  what number 1 leaves of a count
+use mathlib.Core.Bool.{Bool, _&&_, false, true}
 use mathlib.Core.List.{List, [], _∷_}
 use mathlib.Core.Path.{_≡_, refl}
-use Prim.Native.Nat.{_<_, _≤_, ℕ}
+use Prim.Native.Nat.{_%_, _<_, _≤_, ℕ}
 use native.Mathlib.Omega.{arith}
-use borrow.Author.Tests.{le-ltb, lt-ltb}
-use Rattle.theory.specs.Answer.{Rung, each, firstBroken, refused, whole}
+use lib.Dec.{eqb, leb}
+use borrow.Author.Tests.{eqb-true, le-ltb, leb-true, lt-ltb}
+use Rattle.theory.proofs.TestLaws.{and-left, and-right}
+use Rattle.theory.specs.Answer.{Rung, countOk, each, firstBroken, refused, whole}
 use Rattle.theory.specs.Lists.{least}
 use Rattle.theory.specs.declared.Answer.{Answer}
 
@@ -39,3 +42,11 @@ module _ (n : ℕ) (ok : Bool) (rs : List Rung) (a : Answer) where
 pub none-broken : (a : Answer) → firstBroken [] a ≡ a
 unfolding firstBroken
 none-broken a = refl
+
+pub count-few : (t : ℕ) → countOk t ≡ true → (t % 2 ≡ 0) × (2 ≤ t) × (t ≤ 65536)
+unfolding countOk
+count-few t h =
+    let r = and-right (eqb (t % 2) 0) (leb 2 t && leb t 65536) h in
+    ( eqb-true (t % 2) 0 (and-left (eqb (t % 2) 0) (leb 2 t && leb t 65536) h)
+    , leb-true 2 t (and-left (leb 2 t) (leb t 65536) r)
+    , leb-true t 65536 (and-right (leb 2 t) (leb t 65536) r) )

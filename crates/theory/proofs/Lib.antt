@@ -24,4 +24,5 @@ pub mod ReachLaws
 pub mod MeshLaws
 pub mod Passed
 pub mod MeshMeaning
+pub mod CallLaws
 pub mod Marked
