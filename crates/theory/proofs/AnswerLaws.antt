@@ -46,7 +46,8 @@ none-broken a = refl
 pub count-few : (t : ℕ) → countOk t ≡ true → (t % 2 ≡ 0) × (2 ≤ t) × (t ≤ 65536)
 unfolding countOk
 count-few t h =
-    let r = and-right (eqb (t % 2) 0) (leb 2 t && leb t 65536) h in
-    ( eqb-true (t % 2) 0 (and-left (eqb (t % 2) 0) (leb 2 t && leb t 65536) h)
-    , leb-true 2 t (and-left (leb 2 t) (leb t 65536) r)
-    , leb-true t 65536 (and-right (leb 2 t) (leb t 65536) r) )
+    let r = and-right (eqb (t % 2) 0) (leb 2 t && leb t 65536) h in (
+      eqb-true (t % 2) 0 (and-left (eqb (t % 2) 0) (leb 2 t && leb t 65536) h),
+      leb-true 2 t (and-left (leb 2 t) (leb t 65536) r),
+      leb-true t 65536 (and-right (leb 2 t) (leb t 65536) r),
+    )

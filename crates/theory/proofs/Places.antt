@@ -3,6 +3,7 @@
 --   places u i l     where u stands in l, the first place of l counted as i
 --   length-places places-once places-at places-only    they are that
 --   counted count-find    a number that stands in a list is counted, and one that is counted stands in it
+--   present-few           numbers that all stand in a list are no more than it is long
 --   vals-apart vals-meet  the values of a map: each at most once, and each met
 use mathlib.Core.Bool.{cond}
 use mathlib.Core.List.{List, [], _∷_}
@@ -15,7 +16,7 @@ use lib.Dec.{eqb}
 use lib.ListN.{getD, length}
 use borrow.Author.Tests.{eq-eqb, ne-eqb}
 use Rattle.theory.proofs.Counting.{bit, bit-off, count, pigeon}
-use Rattle.theory.proofs.Injections.{length-vals, vals, vals-in, vals-once}
+use Rattle.theory.proofs.Injections.{length-vals, vals, vals-in, vals-off, vals-once}
 
 pub bit-on : (x y : ℕ) → x ≡ y → bit (eqb x y) ≡ 1
 unfolding bit
@@ -133,3 +134,14 @@ count-short u l = let a = pigeon (places u 0 l) (vals (λ i. i) (length l)) amon
         go : Dec (count d (places u 0 l) ≡ 0) → count d (places u 0 l) ≤ count d (vals (λ i. i) (length l))
         go (yes e) = omega arith
         go (no n) = let p = places-only u 0 d l (omega arith) in omega (arith, places-once u 0 d l, vals-in d (length l) (omega (arith, p .1)))
+
+-- numbers below n that all stand in a list are no more than it is long
+pub present-few : (n : ℕ) (l : List ℕ) → ((u : ℕ) → u < n → 1 ≤ count u l) → n ≤ length l
+present-few n l f = let a = pigeon (vals (λ i. i) n) l among in omega (arith, length-vals (λ i. i) n)
+  where
+    among : (u : ℕ) → count u (vals (λ i. i) n) ≤ count u l
+    among u = go (decLt u n)
+      where
+        go : Dec (u < n) → count u (vals (λ i. i) n) ≤ count u l
+        go (yes h) = omega (arith, f u h, vals-once (λ i. i) u n (λ i j p q e. e))
+        go (no h) = omega (arith, vals-off (λ i. i) u n (λ i l q. omega arith))

@@ -1,6 +1,7 @@
 -- Swinging round a vertex, on what rules 10 and 11 leave: a surface.
 --
 --   Surface vs os     opposites pair the corners of the table, and edges are glued end to end; beyond the table too
+--   Pairing os        what rule 10 alone leaves of it
 --   swings os i c     the corner after i swings from c
 --   swing-inj swing-low swing-vertex     a swing is one to one, stays in the table and at its vertex
 --   swings-apart swings-round            corners met before the swings come back, and after
@@ -22,6 +23,12 @@ pub record Surface (vs os : List ℕ) : Type 0 where
   pub inside : (c : ℕ) → c < length os → opposite os c < length os
   pub paired : (c : ℕ) → opposite os (opposite os c) ≡ c
   pub glued : (c : ℕ) → vertex vs (next c) ≡ vertex vs (previous (opposite os c))
+
+-- what rule 10 alone leaves
+pub record Pairing (os : List ℕ) : Type 0 where
+  pub thirds : length os % 3 ≡ 0
+  pub inside : (c : ℕ) → c < length os → opposite os c < length os
+  pub paired : (c : ℕ) → opposite os (opposite os c) ≡ c
 
 abbrev pub swings : List ℕ → ℕ → ℕ → ℕ
 swings os i c = iter (swing (opposite os)) i c
@@ -48,7 +55,13 @@ pub previous-in : (n c : ℕ) → n % 3 ≡ 0 → c < n → previous c < n
 unfolding previous
 previous-in n c k h = omega arith
 
+pub swing-in : (os : List ℕ) → Pairing os → (c : ℕ) → c < length os → swing (opposite os) c < length os
+swing-in os p c h = next-in (length os) (opposite os (next c)) (p .thirds) (p .inside (next c) (next-in (length os) c (p .thirds) h))
+
 module _ {vs os : List ℕ} (s : Surface vs os) where
+  pub pairing : Pairing os
+  pairing = record { thirds = s .thirds; inside = s .inside; paired = s .paired }
+
   -- the other half of rule 11
   pub glued-back : (c : ℕ) → vertex vs (previous c) ≡ vertex vs (next (opposite os c))
   glued-back c = sym (s .glued (opposite os c) ∙ ap (λ (d : ℕ). vertex vs (previous d)) (s .paired c))
@@ -60,8 +73,7 @@ module _ {vs os : List ℕ} (s : Surface vs os) where
       sym (previous-next a) ∙ ap previous r ∙ previous-next b
 
   pub swing-low : (c : ℕ) → c < length os → swing (opposite os) c < length os
-  swing-low c h =
-      next-in (length os) (opposite os (next c)) (s .thirds) (s .inside (next c) (next-in (length os) c (s .thirds) h))
+  swing-low c h = swing-in os pairing c h
 
   pub swing-vertex : (c : ℕ) → vertex vs (swing (opposite os) c) ≡ vertex vs c
   swing-vertex c = sym (glued-back (next c)) ∙ ap (vertex vs) (previous-next c)
