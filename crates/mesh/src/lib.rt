@@ -2,21 +2,20 @@
 // table before the next. Linear on every input; the work space may hold anything.
 ghost use mathlib.Core.Path.{_≡_};
 ghost use mathlib.Core.Bool.{true};
-ghost use mathlib.Core.List.{[], _∷_};
 ghost use Prim.Native.Nat.{ℕ, _+_, _*_, _/_, _%_, _<_, _≤_};
-ghost use lib.Dec.{eqb};
 ghost use lib.ListN.{length, getD, take, replicate};
 ghost use Rattle.theory.specs.Lists.{least};
-ghost use Rattle.theory.specs.Answer.{each, whole, firstBroken, done};
-ghost use Rattle.theory.specs.Corner.{triangle};
-ghost use Rattle.theory.specs.Mesh.{belowAt, pairedAt, gluedAt, apartAt, ringedAt, reachedAt, shapeOk, meshRungs};
+ghost use Rattle.theory.specs.Answer.{firstBroken, done};
+ghost use Rattle.theory.specs.Corner.{next, previous, triangle, vertex};
+ghost use Rattle.theory.specs.Mesh.{belowAt, pairedAt, gluedAt, apartAt, reachedAt, shapeOk, meshRungs};
 ghost use Rattle.theory.proofs.SwingLaws.{Surface, Pairing};
+ghost use Rattle.mesh.specs.Later.{laterRungs};
 ghost use Rattle.mesh.specs.Search.{across, touch, spread, searchIn, Closed, Exact, marked};
 use corner::next_of;
 use corner::opposite_of;
 use corner::previous_of;
 use lent::accept;
-use lent::clear;
+use lent::clear_front;
 use lent::count_ok;
 use lent::refuse;
 use lent::wide;
@@ -78,16 +77,35 @@ fn first_unpaired(os: &[u32]) -> usize
     c
 }
 
+// The vertex after corner c in its triangle, and the one before it.
+fn vertex_next(vs: &[u32], c: usize) -> u32
+    requires { ⌜ triangle c < length (now vs) / 3 ⌝ }
+    ensures { λ r. ⌜ r ≡ vertex (now (vs .entry)) (next c) ⌝ }
+{
+    vs[next_of(c)]
+}
+
+fn vertex_previous(vs: &[u32], c: usize) -> u32
+    requires { ⌜ triangle c < length (now vs) / 3 ⌝ }
+    ensures { λ r. ⌜ r ≡ vertex (now (vs .entry)) (previous c) ⌝ }
+{
+    vs[previous_of(c)]
+}
+
 // Number 11 at corner c.
 fn glued_at(vs: &[u32], os: &[u32], c: usize) -> bool
     requires { ⌜ Pairing (now os) × (length (now vs) ≡ length (now os)) × (c < length (now vs)) ⌝ }
     ensures { λ r. ⌜ r ≡ gluedAt (now (vs .entry)) (now (os .entry)) c ⌝ }
 {
     let d = opposite_of(os, c);
-    if vs[next_of(c)] != vs[previous_of(d)] {
+    let a = vertex_next(vs, c);
+    let b = vertex_previous(vs, d);
+    if a != b {
         return false;
     }
-    vs[previous_of(c)] == vs[next_of(d)]
+    let e = vertex_previous(vs, c);
+    let f = vertex_next(vs, d);
+    e == f
 }
 
 fn first_unglued(vs: &[u32], os: &[u32]) -> usize
@@ -168,7 +186,7 @@ fn spread_at(os: &[u32], work: &mut [u32], t: usize, p: usize) -> usize
 }
 
 // Marks each triangle that is reached from triangle a, in a table of zeros.
-fn search(os: &[u32], work: &mut [u32], t: usize, a: usize)
+fn mark_reached(os: &[u32], work: &mut [u32], t: usize, a: usize)
     requires { ⌜ Closed t (now os) × (a < t) × (t < 4294967296) × (t + t + 3 ≤ length (now work)) × (take t (now work) ≡ replicate t 0) ⌝ }
     ensures { λ _. ⌜ Exact (now (os .entry)) a (take t (now (work .exit))) ⌝ }
 {
@@ -200,15 +218,15 @@ fn first_unreached(os: &[u32], g: usize, work: &mut [u32]) -> usize
     ensures { λ r. ⌜ r ≡ least (reachedAt (now (os .entry)) (length (now (os .entry)) / 3) g) (length (now (os .entry)) / 3) ⌝ }
 {
     let t = os.len() / 3;
-    clear(&mut work[..t]);
-    search(os, work, t, g / 3);
+    clear_front(work, t);
+    mark_reached(os, work, t, g / 3);
     first_unmarked(work, t)
 }
 
 // Numbers 13 to 15 of tables that passed those before.
 fn judge_whole(vs: &[u32], os: &[u32], v: u32, g: u32, work: &mut [u32]) -> Answer
     requires { ⌜ Surface (now vs) (now os) × (g < length (now vs)) × (length (now vs) ≤ 196608) × (6 ≤ length (now vs)) × (12 * (length (now vs) / 3) ≤ length (now work)) ⌝ }
-    ensures { λ r. ⌜ r ≡ firstBroken (each 13 (ringedAt (now (vs .entry)) (now (os .entry))) v ∷ each 14 (reachedAt (now (os .entry)) (length (now (vs .entry)) / 3) g) (length (now (vs .entry)) / 3) ∷ whole 15 (eqb (length (now (vs .entry)) / 3 + 4) (2 * v)) ∷ []) (done (length (now (vs .entry)) / 3) v) ⌝ }
+    ensures { λ r. ⌜ r ≡ firstBroken (laterRungs (now (vs .entry)) (now (os .entry)) v g) (done (length (now (vs .entry)) / 3) v) ⌝ }
 {
     let t = vs.len() / 3;
     let u = first_unringed(vs, os, v, work);

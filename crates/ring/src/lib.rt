@@ -2,15 +2,14 @@
 // counts of every kind: the corners of each vertex are counted, and a ring is followed no further than it has corners.
 ghost use mathlib.Core.Path.{_≡_};
 ghost use Prim.Native.Nat.{ℕ, _+_, _<_, _≤_};
-ghost use lib.ListN.{length, getD, drop, replicate};
-ghost use mathlib.Core.List.{_++_};
+ghost use lib.ListN.{length, getD};
 ghost use Rattle.theory.specs.Lists.{least};
 ghost use Rattle.theory.specs.Mesh.{ringedAt};
 ghost use Rattle.theory.proofs.SwingLaws.{Surface, Pairing};
 ghost use Rattle.theory.proofs.RingLaws.{awayFor};
 ghost use Rattle.ring.specs.Tally.{tallied, Tallied, Zeros};
 use corner::swing_of;
-use lent::clear;
+use lent::clear_front;
 use lent::wide;
 
 // Corner c is counted at its vertex, and kept as the vertex's first corner so far.
@@ -84,14 +83,6 @@ fn scan_rings(vs: &[u32], os: &[u32], work: &[u32], v: u32) -> u32
         u += 1;
     }
     v
-}
-
-// The first n numbers made zero.
-fn clear_front(work: &mut [u32], n: usize)
-    requires { ⌜ n ≤ length (now work) ⌝ }
-    ensures { λ _. ⌜ now (work .exit) ≡ replicate n 0 ++ drop n (now (work .entry)) ⌝ }
-{
-    clear(&mut work[..n]);
 }
 
 // The same on a work space that holds anything.

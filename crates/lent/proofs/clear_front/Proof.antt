@@ -5,8 +5,8 @@ use Prim.Native.Nat.{ℕ}
 use lib.ListN.{drop, replicate}
 use lib.Seq.{length-take-le}
 use borrow.Author.Needs.{needs}
-use Rattle.ring.proofs.clear_front.Statement.{statement}
-use Rattle.ring.proofs.clear_front.Tie as tie
+use Rattle.lent.proofs.clear_front.Statement.{statement}
+use Rattle.lent.proofs.clear_front.Tie as tie
 
 slice-relend-prefix-clear : tie.Need-slice-relend-prefix-clear
 slice-relend-prefix-clear c = search needs
