@@ -90,7 +90,6 @@ begun t os a work work′ p r h z ep l same e =
     let d : drop p work ≡ [] = drop-of-length-le work {i = p} (omega arith) in
     record { same = refl; within = omega arith; good = subst (Good t os a) (sym (e ∙ ap (λ (y : List ℕ). touch a (record { seen = take t work; stack = y })) d)) (started t os a (take t work) h z) }
 
-
 -- ---- rule 14 from the marks
 
 pub agrees : (t : ℕ) (os : List ℕ) (g : ℕ) (work : List ℕ) (r : ℕ) → Pairing os → length os ≡ 3 * t → g < length os
