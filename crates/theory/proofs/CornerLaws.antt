@@ -4,7 +4,7 @@
 --   next-previous ..               they undo each other, thrice is once round, and the triangle stays
 --   place by-place three           every corner is one of the three
 use mathlib.Core.Logic.{_≢_, _⊎_, inl, inr}
-use mathlib.Core.Path.{_≡_}
+use mathlib.Core.Path.{_∙_, _≡_, ap, sym}
 use Prim.Native.Nat.{_%_, _*_, _+_, _<_, _≤_, ℕ}
 use native.Mathlib.Decide.{ℕ-discrete}
 use native.Mathlib.Omega.{arith}
@@ -67,6 +67,9 @@ pub triangle-previous : (c : ℕ) → triangle (previous c) ≡ triangle c
 unfolding next previous
 triangle-previous c = omega arith
 
+pub next-injective : (c d : ℕ) → next c ≡ next d → c ≡ d
+next-injective c d h = sym (previous-next c) ∙ ap previous h ∙ previous-next d
+
 -- both stay in their triangle, so on their side of every multiple of 3
 
 pub next-low : (t c : ℕ) → c < 3 * t → next c < 3 * t
@@ -106,7 +109,8 @@ place c = go (ℕ-discrete (c % 3) 0) (ℕ-discrete (c % 3) 1)
     go (no h) (no i) = at-right (omega arith)
 
 -- a fact about all corners is one about 3k, 3k+1 and 3k+2
-pub by-place : (P : ℕ → Type 0) → ((k : ℕ) → P (3 * k)) → ((k : ℕ) → P (3 * k + 1)) → ((k : ℕ) → P (3 * k + 2)) → (c : ℕ) → P c
+pub by-place : (P : ℕ → Type 0) → ((k : ℕ) → P (3 * k)) → ((k : ℕ) → P (3 * k + 1)) → ((k : ℕ) → P (3 * k + 2))
+    → (c : ℕ) → P c
 by-place P a b d c = go (place c)
   where
     go : Place c → P c

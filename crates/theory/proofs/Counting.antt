@@ -3,17 +3,19 @@
 --   count x l         how often; additive over ++
 --   pigeon            a list whose numbers occur no oftener than in another is no longer than it
 --   tris k n          the corners of the triangles k, .., k + n - 1
-use mathlib.Core.Bool.{Bool, false, true}
+--   differ            two entries of a list without repetition differ
+use mathlib.Core.Bool.{Bool, cond, false, true}
 use mathlib.Core.List.{List, [], _++_, _∷_}
 use mathlib.Core.Logic.{_≢_}
-use mathlib.Core.Path.{_≡_, refl}
-use Prim.Native.Nat.{_*_, _+_, _<_, _≤_, one, suc, zero, ℕ}
+use mathlib.Core.Path.{_∙_, _≡_, ap, refl, sym}
+use Prim.Native.Nat.{_*_, _+_, _<_, _≤_, suc, zero, ℕ}
 use native.Mathlib.Decide.{decLt, ℕ-discrete}
 use native.Mathlib.Nat.{add-zero, suc-add, zero-add}
 use native.Mathlib.Omega.{arith}
 use lib.Dec.{T, eqb, eqb-refl, eqb→eq}
-use lib.ListN.{length}
+use lib.ListN.{drop, getD, length, take, take-append-drop}
 use Rattle.theory.proofs.Each.{EachN}
+use Rattle.theory.specs.Lists.{front, tail}
 
 -- occurrences
 unfoldable pub bit : Bool → ℕ
@@ -29,32 +31,29 @@ unfolding count
 count-append x [] b = omega arith
 count-append x (y ∷ ys) b = let i = count-append x ys b in omega arith
 
--- b chosen by a test
-unfoldable pub pick : Bool → List ℕ → List ℕ → List ℕ
-pick true a b = a
-pick false a b = b
-
 -- take one x out
 unfoldable pub less : ℕ → List ℕ → List ℕ
 less x [] = []
-less x (y ∷ ys) = pick (eqb x y) ys (y ∷ less x ys)
+less x (y ∷ ys) = cond (eqb x y) ys (y ∷ less x ys)
 
 pub length-less : (x : ℕ) (ys : List ℕ) → 1 ≤ count x ys → length (less x ys) + 1 ≡ length ys
-unfolding less count pick bit
+unfolding less count bit
 length-less x [] h = absurd (omega arith)
 length-less x (y ∷ ys) h = go (eqb x y) refl (length-less x ys)
   where
-    go : (b : Bool) → eqb x y ≡ b → (1 ≤ count x ys → length (less x ys) + 1 ≡ length ys) → length (pick (eqb x y) ys (y ∷ less x ys)) + 1 ≡ suc (length ys)
+    go : (b : Bool) → eqb x y ≡ b → (1 ≤ count x ys → length (less x ys) + 1 ≡ length ys)
+        → length (cond (eqb x y) ys (y ∷ less x ys)) + 1 ≡ suc (length ys)
     go true q f = rw q (omega arith)
     go false q f = let i0 = rw q at h in let i : 1 ≤ count x ys = omega arith in let j = f i in rw q (omega arith)
 
 -- what is left of the others
 pub count-less : (z x : ℕ) (ys : List ℕ) → 1 ≤ count x ys → count z (less x ys) + bit (eqb z x) ≡ count z ys
-unfolding less count pick bit
+unfolding less count bit
 count-less z x [] h = absurd (omega arith)
 count-less z x (y ∷ ys) h = go (eqb x y) refl (count-less z x ys)
   where
-    go : (b : Bool) → eqb x y ≡ b → (1 ≤ count x ys → count z (less x ys) + bit (eqb z x) ≡ count z ys) → count z (pick (eqb x y) ys (y ∷ less x ys)) + bit (eqb z x) ≡ bit (eqb z y) + count z ys
+    go : (b : Bool) → eqb x y ≡ b → (1 ≤ count x ys → count z (less x ys) + bit (eqb z x) ≡ count z ys)
+        → count z (cond (eqb x y) ys (y ∷ less x ys)) + bit (eqb z x) ≡ bit (eqb z y) + count z ys
     go true q f = let w : x ≡ y = eqb→eq x y (rw q tt) in rw (q, w) (omega arith)
     go false q f = let i0 = rw q at h in let i : 1 ≤ count x ys = omega arith in let j = f i in rw q (omega arith)
 
@@ -101,7 +100,8 @@ pub eachN-absent : (b : ℕ) (a : List ℕ) → count b a ≡ 0 → EachN (λ x.
 unfolding count
 eachN-absent b [] h = tt
 eachN-absent b (x ∷ a) h =
-    ((λ (q : x ≡ b). let w = bit-refl b in let v : bit (eqb b x) ≡ 1 = rw q w in omega arith), eachN-absent b a (omega arith))
+    let other : x ≢ b = λ (q : x ≡ b). let w = bit-refl b in let v : bit (eqb b x) ≡ 1 = rw q w in omega arith in
+    (other, eachN-absent b a (omega arith))
 
 -- number of x in the triangles k .. k + n - 1
 unfoldable pub tris : ℕ → ℕ → List ℕ
@@ -131,17 +131,29 @@ unfolding tris count
 tris-once x zero k = omega arith
 tris-once x (suc n) k = go (decLt x (3 * (k + 1))) (tris-once x n (k + 1))
   where
-    go : Dec (x < 3 * (k + 1)) → count x (tris (k + 1) n) ≤ 1 → bit (eqb x (3 * k)) + (bit (eqb x (3 * k + 1)) + (bit (eqb x (3 * k + 2)) + count x (tris (k + 1) n))) ≤ 1
-    go (yes h) z = let i = tris-low x n (k + 1) h in let a = bit-two x (3 * k) (3 * k + 1) (omega arith) in let b = bit-two x (3 * k) (3 * k + 2) (omega arith) in let d = bit-two x (3 * k + 1) (3 * k + 2) (omega arith) in omega arith
-    go (no h) z = let a = bit-off x (3 * k) (omega arith) in let b = bit-off x (3 * k + 1) (omega arith) in let d = bit-off x (3 * k + 2) (omega arith) in omega arith
+    go : Dec (x < 3 * (k + 1)) → count x (tris (k + 1) n) ≤ 1
+        → bit (eqb x (3 * k)) + (bit (eqb x (3 * k + 1)) + (bit (eqb x (3 * k + 2)) + count x (tris (k + 1) n))) ≤ 1
+    go (yes h) z =
+        let i = tris-low x n (k + 1) h in
+        let a = bit-two x (3 * k) (3 * k + 1) (omega arith) in
+        let b = bit-two x (3 * k) (3 * k + 2) (omega arith) in
+        let d = bit-two x (3 * k + 1) (3 * k + 2) (omega arith) in
+        omega arith
+    go (no h) z =
+        let a = bit-off x (3 * k) (omega arith) in
+        let b = bit-off x (3 * k + 1) (omega arith) in
+        let d = bit-off x (3 * k + 2) (omega arith) in
+        omega arith
 
 -- the triangles k, .., k + n - 1 hold each of their corners, and no other
 pub tris-in : (x n k : ℕ) → 3 * k ≤ x → x < 3 * (k + n) → 1 ≤ count x (tris k n)
 unfolding tris count
 tris-in x zero k h i = absurd (omega arith)
-tris-in x (suc n) k h i = go (ℕ-discrete x (3 * k)) (ℕ-discrete x (3 * k + 1)) (ℕ-discrete x (3 * k + 2)) (tris-in x n (k + 1))
+tris-in x (suc n) k h i =
+    go (ℕ-discrete x (3 * k)) (ℕ-discrete x (3 * k + 1)) (ℕ-discrete x (3 * k + 2)) (tris-in x n (k + 1))
   where
-    go : Dec (x ≡ 3 * k) → Dec (x ≡ 3 * k + 1) → Dec (x ≡ 3 * k + 2) → (3 * (k + 1) ≤ x → x < 3 * (k + 1 + n) → 1 ≤ count x (tris (k + 1) n))
+    go : Dec (x ≡ 3 * k) → Dec (x ≡ 3 * k + 1) → Dec (x ≡ 3 * k + 2)
+        → (3 * (k + 1) ≤ x → x < 3 * (k + 1 + n) → 1 ≤ count x (tris (k + 1) n))
         → 1 ≤ bit (eqb x (3 * k)) + (bit (eqb x (3 * k + 1)) + (bit (eqb x (3 * k + 2)) + count x (tris (k + 1) n)))
     go (yes p) q d f = let u : bit (eqb x (3 * k)) ≡ 1 = rw (← p) (bit-refl x) in omega arith
     go (no p) (yes q) d f = let u : bit (eqb x (3 * k + 1)) ≡ 1 = rw (← q) (bit-refl x) in omega arith
@@ -157,3 +169,35 @@ tris-off x (suc n) k h =
     let b = bit-off x (3 * k + 1) (omega arith) in
     let d = bit-off x (3 * k + 2) (omega arith) in
     omega arith
+
+pub count-in : (i : ℕ) (us : List ℕ) → i < length us → 1 ≤ count (getD us i 0) us
+unfolding count
+count-in i [] h = absurd (omega arith)
+count-in zero (u ∷ us) h = let b = bit-refl u in omega arith
+count-in (suc i) (u ∷ us) h = let z = count-in i us (omega arith) in omega arith
+
+pub differ : (us : List ℕ) (i j : ℕ) → ((x : ℕ) → count x us ≤ 1) → i < j → j < length us → getD us i 0 ≢ getD us j 0
+unfolding count
+differ [] i j h p q = absurd (omega arith)
+differ (u ∷ us) i zero h p q = absurd (omega arith)
+differ (u ∷ us) zero (suc j) h p q = λ (o : u ≡ getD us j 0).
+    let a = count-in j us (omega arith) in
+    let m : 1 ≤ count u us = rw o a in
+    let b = bit-refl u in
+    let n = h u in
+    omega arith
+differ (u ∷ us) (suc i) (suc j) h p q = differ us i j (λ x. let n = h x in omega arith) (omega arith) (omega arith)
+
+pub count-front : (x : ℕ) (us : List ℕ) → count x (front us) ≤ count x us
+unfolding count front
+count-front x [] = omega arith
+count-front x (u ∷ []) = omega arith
+count-front x (u ∷ (y ∷ us)) = let i = count-front x (y ∷ us) in omega arith
+
+pub count-tail : (x : ℕ) (us : List ℕ) → count x (tail us) ≤ count x us
+unfolding count tail
+count-tail x [] = omega arith
+count-tail x (u ∷ us) = omega arith
+
+pub count-parts : (x n : ℕ) (us : List ℕ) → count x us ≡ count x (take n us) + count x (drop n us)
+count-parts x n us = sym (ap (count x) (take-append-drop n us)) ∙ count-append x (take n us) (drop n us)

@@ -1,8 +1,8 @@
 -- A fact about every number of a list (`EachN`), handed on to the list's parts.
 use mathlib.Core.List.{List, [], _++_, _∷_}
-use Prim.Native.Nat.{_≤_, suc, zero, ℕ}
+use Prim.Native.Nat.{_<_, _≤_, suc, zero, ℕ}
 use native.Mathlib.Omega.{arith}
-use lib.ListN.{drop, length, take}
+use lib.ListN.{drop, getD, length, take}
 use Rattle.theory.specs.Lists.{back, front, head, tail}
 
 -- every number of a list
@@ -68,3 +68,8 @@ module _ (P : ℕ → Type 0) where
   each-back [] q h = absurd (omega arith)
   each-back (x ∷ []) q h = h .0
   each-back (x ∷ (y ∷ rs)) q h = each-back (y ∷ rs) (omega arith) (h .1)
+
+  pub each-getD : (rs : List ℕ) (i : ℕ) → i < length rs → EachN P rs → P (getD rs i 0)
+  each-getD [] i q h = absurd (omega arith)
+  each-getD (x ∷ rs) zero q h = h .0
+  each-getD (x ∷ rs) (suc i) q h = each-getD rs i (omega arith) (h .1)

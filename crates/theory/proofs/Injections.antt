@@ -7,12 +7,9 @@ use Prim.Native.Nat.{_+_, _<_, _≤_, suc, zero, ℕ}
 use native.Mathlib.Decide.{decLt, ℕ-discrete}
 use native.Mathlib.Omega.{arith}
 use lib.Dec.{eqb}
-use lib.Ieee.{lt}
 use lib.ListN.{length}
 use Rattle.theory.proofs.Counting.{bit, bit-off, bit-refl, count, pigeon}
-use Rattle.theory.specs.Answer.{each}
 use Rattle.theory.specs.Lists.{iter}
-use Rattle.theory.specs.Word.{wR}
 
 -- g 0, .., g (m - 1), last first
 unfoldable pub vals : (ℕ → ℕ) → ℕ → List ℕ
@@ -27,7 +24,10 @@ length-vals g (suc m) = ap suc (length-vals g m)
 pub vals-off : (g : ℕ → ℕ) (x m : ℕ) → ((i : ℕ) → i < m → x ≢ g i) → count x (vals g m) ≡ 0
 unfolding vals count
 vals-off g x zero h = refl
-vals-off g x (suc m) h = let a = bit-off x (g m) (h m (omega arith)) in let b = vals-off g x m (λ i q. h i (omega arith)) in omega arith
+vals-off g x (suc m) h =
+    let a = bit-off x (g m) (h m (omega arith)) in
+    let b = vals-off g x m (λ i q. h i (omega arith)) in
+    omega arith
 
 pub vals-once : (g : ℕ → ℕ) (x m : ℕ) → ((i j : ℕ) → i < m → j < m → g i ≡ g j → i ≡ j) → count x (vals g m) ≤ 1
 unfolding vals count
@@ -36,7 +36,8 @@ vals-once g x (suc m) h = go (ℕ-discrete x (g m)) (vals-once g x m (λ i j p q
   where
     go : Dec (x ≡ g m) → count x (vals g m) ≤ 1 → bit (eqb x (g m)) + count x (vals g m) ≤ 1
     go (yes p) z =
-        let a = vals-off g x m (λ i q (o : x ≡ g i). let w = h i m (omega arith) (omega arith) (sym o ∙ p) in omega arith) in
+        let same : (i : ℕ) → i < m → x ≡ g i → i ≡ m = λ i q o. h i m (omega arith) (omega arith) (sym o ∙ p) in
+        let a = vals-off g x m (λ i q (o : x ≡ g i). let w = same i q o in omega arith) in
         let b : bit (eqb x (g m)) ≡ 1 = rw (← p) (bit-refl x) in
         omega arith
     go (no p) z = let a = bit-off x (g m) p in omega arith
@@ -48,18 +49,19 @@ vals-in x (suc n) h = go (ℕ-discrete x n) (vals-in x n)
   where
     go : Dec (x ≡ n) → (x < n → 1 ≤ count x (vals (λ i. i) n)) → 1 ≤ bit (eqb x n) + count x (vals (λ i. i) n)
     go (yes p) f = let b : bit (eqb x n) ≡ 1 = rw (← p) (bit-refl x) in omega arith
-    go (no p) f = let lt : x < n = omega arith in let z = f lt in omega arith
+    go (no p) f = let below : x < n = omega arith in let z = f below in omega arith
 
 -- F2
-pub inj-bound : (g : ℕ → ℕ) (m n : ℕ) → ((i : ℕ) → i < m → g i < n) → ((i j : ℕ) → i < m → j < m → g i ≡ g j → i ≡ j) → m ≤ n
+pub inj-bound : (g : ℕ → ℕ) (m n : ℕ) → ((i : ℕ) → i < m → g i < n) → ((i j : ℕ) → i < m → j < m → g i ≡ g j → i ≡ j)
+    → m ≤ n
 inj-bound g m n lo inj =
-    let a = pigeon (vals g m) (vals (λ i. i) n) each in
+    let a = pigeon (vals g m) (vals (λ i. i) n) all-in in
     let b = length-vals g m in
     let d = length-vals (λ i. i) n in
     omega arith
   where
-    each : (x : ℕ) → count x (vals g m) ≤ count x (vals (λ i. i) n)
-    each x = go (decLt x n)
+    all-in : (x : ℕ) → count x (vals g m) ≤ count x (vals (λ i. i) n)
+    all-in x = go (decLt x n)
       where
         go : Dec (x < n) → count x (vals g m) ≤ count x (vals (λ i. i) n)
         go (yes p) = let a = vals-once g x m inj in let b = vals-in x n p in omega arith
@@ -74,6 +76,9 @@ module _ (g : ℕ → ℕ) (n : ℕ) (lo : (x : ℕ) → x < n → g x < n) (inj
   abbrev Apart : ℕ → ℕ → Type 0
   Apart x m = (i j : ℕ) → i < j → j ≤ m → iter g i x ≢ iter g j x
 
+  abbrev Returns : ℕ → Type 0
+  Returns x = (r : ℕ) × (iter g (suc r) x ≡ x)
+
   grow : (x m : ℕ) → iter g (suc m) x ≢ x → Apart x m → Apart x (suc m)
   unfolding iter
   grow x m h a zero j p q = elimJ (decLt m j)
@@ -84,20 +89,20 @@ module _ (g : ℕ → ℕ) (n : ℕ) (lo : (x : ℕ) → x < n → g x < n) (inj
   grow x m h a (suc i) zero p q = absurd (omega arith)
   grow x m h a (suc i) (suc j) p q = λ o. a i j (omega arith) (omega arith) (inj (iter g i x) (iter g j x) o)
 
-  search : (x m : ℕ) → _⊎_ ((wR : ℕ) × (iter g (suc wR) x ≡ x)) (Apart x m)
+  search : (x m : ℕ) → Returns x ⊎ Apart x m
   search x zero = inr (λ i j p q. absurd (omega arith))
   search x (suc m) = go (search x m) (ℕ-discrete (iter g (suc m) x) x)
     where
-      go : _⊎_ ((wR : ℕ) × (iter g (suc wR) x ≡ x)) (Apart x m) → Dec (iter g (suc m) x ≡ x) → _⊎_ ((wR : ℕ) × (iter g (suc wR) x ≡ x)) (Apart x (suc m))
+      go : Returns x ⊎ Apart x m → Dec (iter g (suc m) x ≡ x) → Returns x ⊎ Apart x (suc m)
       go (inl z) d = inl z
       go (inr a) (yes p) = inl (m, p)
       go (inr a) (no p) = inr (grow x m p a)
 
   -- F3
-  pub order : (x : ℕ) → x < n → (wR : ℕ) × (iter g (suc wR) x ≡ x)
+  pub order : (x : ℕ) → x < n → (r : ℕ) × (iter g (suc r) x ≡ x)
   order x h = go (search x n)
     where
-      go : _⊎_ ((wR : ℕ) × (iter g (suc wR) x ≡ x)) (Apart x n) → (wR : ℕ) × (iter g (suc wR) x ≡ x)
+      go : Returns x ⊎ Apart x n → (r : ℕ) × (iter g (suc r) x ≡ x)
       go (inl z) = z
       go (inr a) =
           let b = inj-bound (λ i. iter g i x) (suc n) n (λ i q. iter-lo i x h) (λ i j p q o. same i j p q o) in
@@ -121,12 +126,13 @@ vals-find f y (suc n) h = go (ℕ-discrete y (f n)) (λ z. vals-find f y n z)
     go (no q) k = let z = bit-off y (f n) q in let m = k (omega arith) in (m .0, omega arith, m .2)
 
 -- F4
-pub onto : (f : ℕ → ℕ) (n : ℕ) → ((i : ℕ) → i < n → f i < n) → ((i j : ℕ) → i < n → j < n → f i ≡ f j → i ≡ j) → (y : ℕ) → y < n → (i : ℕ) × (i < n) × (f i ≡ y)
+pub onto : (f : ℕ → ℕ) (n : ℕ) → ((i : ℕ) → i < n → f i < n) → ((i j : ℕ) → i < n → j < n → f i ≡ f j → i ≡ j)
+    → (y : ℕ) → y < n → (i : ℕ) × (i < n) × (f i ≡ y)
 unfolding count
 onto f n low inj y h = go (decLt 0 (count y (vals f n)))
   where
-    each : count y (vals f n) ≡ 0 → (z : ℕ) → count z (y ∷ vals f n) ≤ count z (vals (λ i. i) n)
-    each m z = at (decLt z n) (ℕ-discrete z y)
+    all-in : count y (vals f n) ≡ 0 → (z : ℕ) → count z (y ∷ vals f n) ≤ count z (vals (λ i. i) n)
+    all-in m z = at (decLt z n) (ℕ-discrete z y)
       where
         at : Dec (z < n) → Dec (z ≡ y) → count z (y ∷ vals f n) ≤ count z (vals (λ i. i) n)
         at (yes p) (yes q) =
@@ -135,12 +141,15 @@ onto f n low inj y h = go (decLt 0 (count y (vals f n)))
             let d = vals-in z n p in
             omega arith
         at (yes p) (no q) = let a = bit-off z y q in let b = vals-once f z n inj in let d = vals-in z n p in omega arith
-        at (no p) q = let a = bit-off z y (λ (o : z ≡ y). omega arith) in let b = vals-off f z n (λ i k (o : z ≡ f i). let u = low i k in omega arith) in omega arith
+        at (no p) q =
+            let a = bit-off z y (λ (o : z ≡ y). omega arith) in
+            let b = vals-off f z n (λ i k (o : z ≡ f i). let u = low i k in omega arith) in
+            omega arith
 
     go : Dec (0 < count y (vals f n)) → (i : ℕ) × (i < n) × (f i ≡ y)
     go (yes m) = vals-find f y n m
     go (no m) =
-        let p = pigeon (y ∷ vals f n) (vals (λ i. i) n) (each (omega arith)) in
+        let p = pigeon (y ∷ vals f n) (vals (λ i. i) n) (all-in (omega arith)) in
         let a = length-vals f n in
         let b = length-vals (λ i. i) n in
         absurd (omega arith)

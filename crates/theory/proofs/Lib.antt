@@ -1,6 +1,7 @@
 -- Laws first, then theorems in the order of dependence.
 pub mod TestLaws
 pub mod LeastLaws
+pub mod GreatestLaws
 pub mod ListLaws
 pub mod Each
 pub mod Counting
@@ -24,5 +25,17 @@ pub mod ReachLaws
 pub mod MeshLaws
 pub mod Passed
 pub mod MeshMeaning
+pub mod Loops
+pub mod Makers
+pub mod Swings
+pub mod HoldsWord
+pub mod Reaches
+pub mod Homes
+pub mod WalkLetters
+pub mod WalkBack
+pub mod WordSteps
+pub mod WordTables
+pub mod WordRings
+pub mod ReadMesh
 pub mod CallLaws
 pub mod Marked

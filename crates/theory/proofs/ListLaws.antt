@@ -50,6 +50,23 @@ back-drop (suc i) [] h = absurd (omega arith)
 back-drop (suc i) (u ∷ []) h = absurd (omega arith)
 back-drop (suc i) (u ∷ (y ∷ us)) h = back-drop i (y ∷ us) (omega arith)
 
+pub back-get : (us : List ℕ) (n : ℕ) → length us ≡ suc n → back us ≡ getD us n 0
+unfolding back
+back-get [] n h = absurd (omega arith)
+back-get (u ∷ []) zero h = refl
+back-get (u ∷ []) (suc n) h = absurd (omega arith)
+back-get (u ∷ (y ∷ us)) zero h = absurd (omega arith)
+back-get (u ∷ (y ∷ us)) (suc n) h = back-get (y ∷ us) n (omega arith)
+
+pub front-get : (us : List ℕ) (n : ℕ) → length us ≡ suc (suc n) → back (front us) ≡ getD us n 0
+unfolding back front
+front-get [] n h = absurd (omega arith)
+front-get (u ∷ []) n h = absurd (omega arith)
+front-get (u ∷ (y ∷ [])) zero h = refl
+front-get (u ∷ (y ∷ [])) (suc n) h = absurd (omega arith)
+front-get (u ∷ (y ∷ (z ∷ us))) zero h = absurd (omega arith)
+front-get (u ∷ (y ∷ (z ∷ us))) (suc n) h = front-get (y ∷ (z ∷ us)) n (omega arith)
+
 pub head-front : (us : List ℕ) → 2 ≤ length us → head (front us) ≡ head us
 unfolding front head
 head-front [] h = refl

@@ -5,10 +5,10 @@
 --   ends js       the corners that some joins join
 --   length-opens  one less than the width
 --   cover         links, mates, open sides and the bottom corner are the corners of the word's triangles, each once
---   opens-low     the open sides stand in the word's triangles
+--   opens-low     the open sides stand in the word's triangles (`Within`)
 use mathlib.Core.List.{List, [], _++_, _∷_}
 use mathlib.Core.Path.{_∙_, _≡_, ap}
-use Prim.Native.Nat.{_*_, _+_, _<_, suc, ℕ}
+use Prim.Native.Nat.{_*_, _+_, _<_, _≤_, suc, ℕ}
 use native.Mathlib.Omega.{arith}
 use lib.Dec.{eqb}
 use lib.ListN.{length, length-append}
@@ -58,7 +58,9 @@ count-ends x [] b = omega arith
 count-ends x ((y ⇌ z) ∷ a) b = let i = count-ends x a b in omega arith
 
 -- D3
-pub cover : (x k : ℕ) (w : Word) → Sound w → count x (ends (links k w)) + count x (ends (mates k w)) + count x (opens k w) + bit (eqb x (3 * k)) ≡ count x (tris k (size w))
+pub cover : (x k : ℕ) (w : Word) → Sound w
+    → count x (ends (links k w)) + count x (ends (mates k w)) + count x (opens k w) + bit (eqb x (3 * k))
+    ≡ count x (tris k (size w))
 unfolding opens links mates ends tris count size
 cover x k wE h = omega arith
 cover x k (wC w) h =
@@ -74,21 +76,38 @@ cover x k (wS a b) h =
     let j = cover x (k + 1 + size a) b (h .1) in
     rw (count-ends, count-ends, count-append, tris-append) (omega arith)
 
--- the opens of a word stand in its triangles
-pub opens-low : (k : ℕ) (w : Word) → Sound w → EachN (λ b. (3 * k < b) × (b < 3 * (k + size w))) (opens k w)
+-- the corners behind 3k of the triangles below m
+abbrev pub Within : ℕ → ℕ → ℕ → Type 0
+Within k m b = (3 * k < b) × (b < 3 * m)
+
+within-more : (k j m n : ℕ) (bs : List ℕ) → k ≤ j → m ≤ n → EachN (Within j m) bs → EachN (Within k n) bs
+within-more k j m n bs p q = eachN-map (Within j m) (Within k n) (λ x h. let l = h .1 in (omega arith, omega arith)) bs
+
+-- the open sides of a word stand in its triangles
+pub opens-low : (k : ℕ) (w : Word) → Sound w → EachN (Within k (k + size w)) (opens k w)
 unfolding opens size
 opens-low k wE h = ((omega arith, omega arith), ((omega arith, omega arith), tt))
 opens-low k (wC w) h =
     let n = length-opens (k + 1) w (h .0) in
-    eachN-left (λ b. (3 * k < b) × (b < 3 * (k + suc (size w)))) (front (opens (k + 1) w)) (back (opens (k + 1) w) ∷ [])
-    (rw (snoc-view (opens (k + 1) w) (omega arith)) at (eachN-map (λ b. (3 * (k + 1) < b) × (b < 3 * (k + 1 + size w))) (λ b. (3 * k < b) × (b < 3 * (k + suc (size w)))) (λ x q. (omega arith, omega arith)) (opens (k + 1) w) (opens-low (k + 1) w (h .0))))
+    let m = k + suc (size w) in
+    let bs = opens (k + 1) w in
+    let i = within-more k (k + 1) (k + 1 + size w) m bs (omega arith) (omega arith) (opens-low (k + 1) w (h .0)) in
+    eachN-left (Within k m) (front bs) (back bs ∷ []) (rw (snoc-view bs (omega arith)) at i)
 opens-low k (wL w) h =
-    eachN-append (λ b. (3 * k < b) × (b < 3 * (k + suc (size w)))) (opens (k + 1) w) ((3 * k + 2) ∷ [])
-    (eachN-map (λ b. (3 * (k + 1) < b) × (b < 3 * (k + 1 + size w))) (λ b. (3 * k < b) × (b < 3 * (k + suc (size w)))) (λ x q. (omega arith, omega arith)) (opens (k + 1) w) (opens-low (k + 1) w h))
-    ((omega arith, omega arith), tt)
+    let m = k + suc (size w) in
+    let bs = opens (k + 1) w in
+    let i = within-more k (k + 1) (k + 1 + size w) m bs (omega arith) (omega arith) (opens-low (k + 1) w h) in
+    eachN-append (Within k m) bs ((3 * k + 2) ∷ []) i ((omega arith, omega arith), tt)
 opens-low k (wR w) h =
-    ((omega arith, omega arith), eachN-map (λ b. (3 * (k + 1) < b) × (b < 3 * (k + 1 + size w))) (λ b. (3 * k < b) × (b < 3 * (k + suc (size w)))) (λ x q. (omega arith, omega arith)) (opens (k + 1) w) (opens-low (k + 1) w h))
+    let m = k + suc (size w) in
+    let bs = opens (k + 1) w in
+    let i = within-more k (k + 1) (k + 1 + size w) m bs (omega arith) (omega arith) (opens-low (k + 1) w h) in
+    ((omega arith, omega arith), i)
 opens-low k (wS a b) h =
-    eachN-append (λ x. (3 * k < x) × (x < 3 * (k + suc (size a + size b)))) (opens (k + 1) a) (opens (k + 1 + size a) b)
-    (eachN-map (λ x. (3 * (k + 1) < x) × (x < 3 * (k + 1 + size a))) (λ x. (3 * k < x) × (x < 3 * (k + suc (size a + size b)))) (λ x q. (omega arith, omega arith)) (opens (k + 1) a) (opens-low (k + 1) a (h .0)))
-    (eachN-map (λ x. (3 * (k + 1 + size a) < x) × (x < 3 * (k + 1 + size a + size b))) (λ x. (3 * k < x) × (x < 3 * (k + suc (size a + size b)))) (λ x q. (omega arith, omega arith)) (opens (k + 1 + size a) b) (opens-low (k + 1 + size a) b (h .1)))
+    let j = k + 1 + size a in
+    let m = k + suc (size a + size b) in
+    let cs = opens (k + 1) a in
+    let bs = opens j b in
+    let i = within-more k (k + 1) j m cs (omega arith) (omega arith) (opens-low (k + 1) a (h .0)) in
+    let n = within-more k j (j + size b) m bs (omega arith) (omega arith) (opens-low j b (h .1)) in
+    eachN-append (Within k m) cs bs i n

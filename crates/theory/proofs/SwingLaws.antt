@@ -10,10 +10,10 @@ use mathlib.Core.Logic.{_≢_}
 use mathlib.Core.Path.{_∙_, _≡_, ap, refl, sym}
 use Prim.Native.Nat.{_%_, _+_, _<_, suc, zero, ℕ}
 use native.Mathlib.Decide.{ℕ-discrete}
-use native.Mathlib.Nat.{suc-add, zero-add}
 use native.Mathlib.Omega.{arith}
 use lib.ListN.{length}
 use Rattle.theory.proofs.CornerLaws.{previous-next}
+use Rattle.theory.proofs.Swings.{iter-add}
 use Rattle.theory.specs.Corner.{next, opposite, previous, swing, vertex}
 use Rattle.theory.specs.Lists.{iter}
 
@@ -43,9 +43,7 @@ module _ (os : List ℕ) where
   swings-more i c = refl
 
   pub swings-add : (i j c : ℕ) → swings os i (swings os j c) ≡ swings os (i + j) c
-  unfolding iter
-  swings-add zero j c = rw zero-add refl
-  swings-add (suc i) j c = rw suc-add (ap (swing (opposite os)) (swings-add i j c))
+  swings-add i j c = iter-add (swing (opposite os)) i j c
 
 pub next-in : (n c : ℕ) → n % 3 ≡ 0 → c < n → next c < n
 unfolding next

@@ -13,7 +13,6 @@ use Rattle.theory.specs.Corner.{next, vertex}
 use Rattle.theory.specs.Lists.{back, front, head, tail}
 use Rattle.theory.specs.Tables.{vertices}
 use Rattle.theory.specs.Word.{Word, news, size, wC, wE, wL, wR, wS, width}
-use denote.Struct.Rest.{rest}
 
 pub length-vertices : (nv : ℕ) (w : Word) (us : List ℕ) → length (vertices nv w us) ≡ 3 * size w
 unfolding vertices size
@@ -28,18 +27,23 @@ length-vertices nv (wS a b) us =
     omega arith
 
 -- the head and the tail of the rest of a list
-pub at-head : (xs : List ℕ) (n y : ℕ) (rest : List ℕ) → drop n xs ≡ y ∷ rest → (getD xs n 0 ≡ y) × (drop (n + 1) xs ≡ rest)
+pub at-head : (xs : List ℕ) (n y : ℕ) (rest : List ℕ) → drop n xs ≡ y ∷ rest
+    → (getD xs n 0 ≡ y) × (drop (n + 1) xs ≡ rest)
 unfolding head
 at-head xs n y rest h = (sym (head-drop n xs) ∙ ap head h, sym (drop-drop 1 n xs) ∙ ap (drop 1) h)
 
 -- past a part of the rest
-pub at-part : (xs : List ℕ) (n m : ℕ) (part rest : List ℕ) → length part ≡ m → drop n xs ≡ part ++ rest → drop (n + m) xs ≡ rest
+pub at-part : (xs : List ℕ) (n m : ℕ) (part rest : List ℕ) → length part ≡ m → drop n xs ≡ part ++ rest
+    → drop (n + m) xs ≡ rest
 at-part xs n m part rest q h = sym (drop-drop m n xs) ∙ ap (drop m) h ∙ rw (← q) (drop-append-seam part rest)
 
 abbrev pub Three : List ℕ → ℕ → ℕ → ℕ → ℕ → List ℕ → Type 0
-Three vt k x y z rest = ((vertex vt (3 * k) ≡ x) × (vertex vt (3 * k + 1) ≡ y) × (vertex vt (3 * k + 2) ≡ z)) × (drop (3 * (k + 1)) vt ≡ rest)
+Three vt k x y z rest =
+    ((vertex vt (3 * k) ≡ x) × (vertex vt (3 * k + 1) ≡ y) × (vertex vt (3 * k + 2) ≡ z))
+    × (drop (3 * (k + 1)) vt ≡ rest)
 
-three-heads : (vt : List ℕ) (k x y z : ℕ) (rest : List ℕ) → drop (3 * k) vt ≡ x ∷ (y ∷ (z ∷ rest)) → Three vt k x y z rest
+three-heads : (vt : List ℕ) (k x y z : ℕ) (rest : List ℕ) → drop (3 * k) vt ≡ x ∷ (y ∷ (z ∷ rest))
+    → Three vt k x y z rest
 three-heads vt k x y z rest h =
     let a = at-head vt (3 * k) x (y ∷ (z ∷ rest)) h in
     let b = at-head vt (3 * k + 1) y (z ∷ rest) (a .1) in
@@ -49,7 +53,8 @@ three-heads vt k x y z rest h =
     ((a .0, b .0, d .0), ap (λ (n : ℕ). drop n vt) next ∙ d .1)
 
 -- N1
-pub rows-of : (vt : List ℕ) (k nv : ℕ) (w : Word) (us rest : List ℕ) → drop (3 * k) vt ≡ vertices nv w us ++ rest → Rows (vertex vt) k nv w us
+pub rows-of : (vt : List ℕ) (k nv : ℕ) (w : Word) (us rest : List ℕ) → drop (3 * k) vt ≡ vertices nv w us ++ rest
+    → Rows (vertex vt) k nv w us
 unfolding vertices
 rows-of vt k nv wE us rest h = three-heads vt k (getD us 1 0) (back us) (head us) rest h .0
 rows-of vt k nv (wC w) us rest h =

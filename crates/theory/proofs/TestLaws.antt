@@ -36,3 +36,7 @@ not-is-true false e = refl
 pub not-is-false : (b : Bool) → not b ≡ false → b ≡ true
 not-is-false true e = refl
 not-is-false false e = sym e
+
+pub and-rest : (a b : Bool) → a ≡ true → (a && b) ≡ false → b ≡ false
+and-rest true b p e = e
+and-rest false b p e = absurd (not-both false p refl)

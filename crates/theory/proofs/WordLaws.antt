@@ -23,8 +23,8 @@ words-spell (wC w) s = rw (words-spell w s)
 words-spell (wL w) s = rw (words-spell w s)
 words-spell (wR w) s = rw (words-spell w s)
 words-spell (wS a b) s =
-    let e = ap words (append-assoc (spell a) (spell b) s) ∙ words-spell a (spell b ++ s) ∙ ap (λ (ws : List Word). a ∷ ws) (words-spell b s) in
-    ap (before S) e
+    let e = ap words (append-assoc (spell a) (spell b) s) ∙ words-spell a (spell b ++ s) in
+    ap (before S) (e ∙ ap (λ (ws : List Word). a ∷ ws) (words-spell b s))
 
 pub words-one : (w : Word) → words (spell w) ≡ w ∷ []
 unfolding words

@@ -1,0 +1,6 @@
+-- Laws of lists first, then one file for each loop.
+pub mod WidthLaws
+pub mod Stores
+pub mod Forward
+pub mod Passes
+pub mod Checks
