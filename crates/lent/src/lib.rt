@@ -1,6 +1,7 @@
 // Leaves of the connectivity part: one number of a lent table, a lent table as a whole, a stack that grows down in one,
 // the five letters, and the two kinds of answer. Each says exactly what it reads or stores.
 ghost use mathlib.Core.Path.{_≡_};
+ghost use mathlib.Core.List.{_++_};
 ghost use Prim.Native.Nat.{ℕ, _-_, _<_, _≤_};
 ghost use lib.ListN.{length, drop, getD, set, replicate};
 ghost use Rattle.theory.specs.Lists.{head, tail};
@@ -43,6 +44,14 @@ pub fn clear(work: &mut [u32])
         work[i] = 0;
         i += 1;
     }
+}
+
+// The first n numbers zero, the others as they come.
+pub fn clear_front(work: &mut [u32], n: usize)
+    requires { ⌜ n ≤ length (now work) ⌝ }
+    ensures { λ _. ⌜ now (work .exit) ≡ replicate n 0 ++ drop n (now (work .entry)) ⌝ }
+{
+    clear(&mut work[..n]);
 }
 
 // The stack that is work from p on: one number more.

@@ -125,7 +125,7 @@ module _ (g : ℕ → ℕ) (n : ℕ) (lo : (x : ℕ) → x < n → g x < n) (inj
               pick3 (no u) (yes w) = absurd (a j i w (omega arith) (sym o))
               pick3 (no u) (no w) = omega arith
 
-vals-find : (f : ℕ → ℕ) (y n : ℕ) → 1 ≤ count y (vals f n) → (i : ℕ) × (i < n) × (f i ≡ y)
+pub vals-find : (f : ℕ → ℕ) (y n : ℕ) → 1 ≤ count y (vals f n) → (i : ℕ) × (i < n) × (f i ≡ y)
 unfolding vals count
 vals-find f y zero h = absurd (omega arith)
 vals-find f y (suc n) h = go (ℕ-discrete y (f n)) (λ z. vals-find f y n z)

@@ -21,6 +21,16 @@ pub mod JoinLaws
 pub mod JoinedTables
 pub mod Rows
 pub mod TableRows
+pub mod Places
+pub mod SwingLaws
+pub mod RingTests
+pub mod RingLaws
+pub mod Members
+pub mod Facing
+pub mod ReachLaws
+pub mod MeshLaws
+pub mod Passed
+pub mod MeshMeaning
 pub mod Loops
 pub mod Makers
 pub mod Swings
