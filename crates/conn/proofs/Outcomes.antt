@@ -5,7 +5,7 @@
 --   writes-kept writes-rest      the same for write_string
 --   read-room write-room         what the checks 1 and 2 leave for the inner parts
 --   letters-kept letters-made    the inner part of read_string: a refusal, and the tables built
---   walk-kept walk-made          the inner part of write_string
+--   traceable walk-kept walk-made    the inner part of write_string
 use mathlib.Core.Bool.{Bool, _&&_, true}
 use mathlib.Core.List.{List, _++_}
 use mathlib.Core.Logic.{_≢_}
@@ -16,11 +16,12 @@ use lib.Dec.{leb}
 use lib.Ieee.{fits}
 use lib.ListN.{drop, length, length-replicate, replicate}
 use borrow.Author.Tests.{le-leb, leb-true}
-use Rattle.conn.specs.Built.{Built}
 use Rattle.conn.specs.Inner.{ReadLetters, ReadRoom, WriteLetters, WriteRoom}
-use Rattle.conn.specs.Trace.{Traced}
+use Rattle.tables.specs.Built.{Built}
 use Rattle.theory.proofs.AnswerLaws.{count-few}
 use Rattle.theory.proofs.CallLaws.{Later, Outcome, cleared-later, filled-done, filled-refused, later-mesh, later-string, sized-rest, went-on}
+use Rattle.theory.proofs.MeshMeaning.{judged-accepted}
+use Rattle.theory.proofs.Neighbours.{later}
 use Rattle.theory.proofs.TestLaws.{and-left, and-right}
 use Rattle.theory.specs.Answer.{countOk, done, firstBroken, refused}
 use Rattle.theory.specs.Calls.{Checks, Judges, Reads, Writes, checkAnswer, judgeAnswer, readAnswer, writeAnswer}
@@ -30,7 +31,8 @@ use Rattle.theory.specs.Tables.{tableO, tableV, vertices}
 use Rattle.theory.specs.Walk.{cornersOf, lettersOf, meshWalk, walk}
 use Rattle.theory.specs.Word.{wordOf}
 use Rattle.theory.specs.declared.Answer.{Answer}
-use types.Kit.{later}
+use Rattle.walk.proofs.Rows.{few}
+use Rattle.walk.specs.Calls.{Traceable, Traced}
 
 -- a refusal is not number 0
 pub refusal : {a : Answer} (n at : ℕ) → a ≡ refused (suc n) at → a .number ≢ 0
@@ -39,15 +41,11 @@ refusal n at e q = let z : suc n ≡ 0 = sym (ap (λ (r : Answer). r .number) e)
 -- what three lengths that are enough say
 all-enough : (a n b m w k : ℕ) → (leb a n && (leb b m && leb w k)) ≡ true → (a ≤ n) × (b ≤ m) × (w ≤ k)
 all-enough a n b m w k h =
-    let r = and-right (leb a n) (leb b m && leb w k) h in
-    ( leb-true a n (and-left (leb a n) (leb b m && leb w k) h)
-    , leb-true b m (and-left (leb b m) (leb w k) r)
-    , leb-true w k (and-right (leb b m) (leb w k) r) )
-
-pub zeros-own : {l : List ℕ} (n : ℕ) → l ≡ replicate n 0 → l ≡ replicate (length l) 0
-zeros-own {l} n e =
-    let m : length l ≡ n = ap length e ∙ length-replicate {A = ℕ} n 0 in
-    e ∙ ap (λ (k : ℕ). replicate k 0) (sym m)
+    let r = and-right (leb a n) (leb b m && leb w k) h in (
+      leb-true a n (and-left (leb a n) (leb b m && leb w k) h),
+      leb-true b m (and-left (leb b m) (leb w k) r),
+      leb-true w k (and-right (leb b m) (leb w k) r),
+    )
 
 module _ {s work work′ : List ℕ} {a : Answer} where
   pub judges-kept :
@@ -178,6 +176,21 @@ write-room {vs} {os} {letters} {walk} {work} ok fits =
     let t = length vs / 3 in
     let r = all-enough t (length letters) t (length walk) (12 * t) (length work) fits in
     record { shape = ok; string = r .0; table = r .1; room = r .2 }
+
+-- what the walk asks, once the mesh is accepted and the work space is zero
+pub traceable :
+    {vs os letters walk work work′ : List ℕ} {v g : ℕ} {a : Answer} → WriteRoom vs os letters walk work
+    → a ≡ firstBroken (meshRungs vs os v g) (done (length vs / 3) v) → a .number ≡ 0
+    → work′ ≡ replicate (length work) 0 → Traceable vs os v g letters walk work′
+traceable {vs} {os} {work = work} {work′ = work′} {v = v} {g = g} lent e h z =
+    let same : length work′ ≡ length work = ap length z ∙ length-replicate {A = ℕ} (length work) 0 in
+    let room = lent .room in
+    record {
+      mesh = judged-accepted vs os v g (lent .shape) (ap (λ (r : Answer). r .number) (sym e) ∙ h);
+      enough = (lent .string, lent .table);
+      room = omega arith;
+      blank = z ∙ ap (λ (n : ℕ). replicate n 0) (sym same);
+    }
 
 module _ {vs os letters walk work work′ : List ℕ} {v g : ℕ} {a : Answer} where
   pub walk-kept :
