@@ -39,10 +39,11 @@ refusal n at e q = let z : suc n ≡ 0 = sym (ap (λ (r : Answer). r .number) e)
 -- what three lengths that are enough say
 all-enough : (a n b m w k : ℕ) → (leb a n && (leb b m && leb w k)) ≡ true → (a ≤ n) × (b ≤ m) × (w ≤ k)
 all-enough a n b m w k h =
-    let r = and-right (leb a n) (leb b m && leb w k) h in
-    ( leb-true a n (and-left (leb a n) (leb b m && leb w k) h)
-    , leb-true b m (and-left (leb b m) (leb w k) r)
-    , leb-true w k (and-right (leb b m) (leb w k) r) )
+    let r = and-right (leb a n) (leb b m && leb w k) h in (
+      leb-true a n (and-left (leb a n) (leb b m && leb w k) h),
+      leb-true b m (and-left (leb b m) (leb w k) r),
+      leb-true w k (and-right (leb b m) (leb w k) r),
+    )
 
 pub zeros-own : {l : List ℕ} (n : ℕ) → l ≡ replicate n 0 → l ≡ replicate (length l) 0
 zeros-own {l} n e =

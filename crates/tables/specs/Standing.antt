@@ -1,12 +1,12 @@
 -- The first pass in the lent tables: the waiting sides are the end of the first t numbers of the work space, the open
 -- sides the end of all of it, so both stacks grow down.
 --
---   zipIn t work os vs q p   the machine that stands in the tables, q and p being the tops of its stacks
+--   zipIn t work os vs q p        the machine that stands in the tables, q and p being the tops of its stacks
 --   unwindIn k t work os vs q p   all that waits there is met
---   goesOn more k q p os vs  after one waiting side: the unwinding goes on, or it stops
---   Turned                   one waiting side x is met
---   Room                     room for a letter at triangle k
---   Stands                   the tables hold the machine z
+--   goesOn more k q p os vs       after one waiting side: the unwinding goes on, or it stops
+--   Turned                        one waiting side x is met
+--   Room                          room for a letter at triangle k
+--   Stands                        the tables hold the machine z
 use mathlib.Core.Bool.{Bool, false, true}
 use mathlib.Core.List.{List, _∷_}
 use mathlib.Core.Path.{_≡_}

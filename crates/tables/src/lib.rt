@@ -1,8 +1,8 @@
 // Tables from the letters of a string that closes (document 01, "Tables from a string"), by two forward passes: the
 // neighbours with two stacks in the work space, then the vertices from the neighbours.
 //
-// A side that waits is lent as 3 * side + 0, 1, 2 for the triangle's letter L, C, S. The passes are right for every
-// string; that they make the tables of the string's word is a fact about the lists that they make (proofs/Building).
+// A side that waits is kept as 3 * side + 0, 1, 2 for its triangle's letter L, C, S. Each pass does what its definition
+// says for every string; that they make the tables of a string that closes is a law of the definitions.
 ghost use mathlib.Core.Path.{_≡_};
 ghost use Prim.Native.Nat.{ℕ, _+_, _-_, _*_, _<_, _≤_};
 ghost use lib.ListN.{length, set};
