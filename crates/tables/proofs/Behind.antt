@@ -1,5 +1,5 @@
--- The second pass where the triangles of a word begin (`OnLoop`), handed on to the words behind its letter (`behind-..`),
--- and the vertex at the tip of the letter's triangle (`tip-is-..`).
+-- The second pass where the triangles of a word begin (`OnLoop`), handed on to the words behind its letter
+-- (`behind-..`), and the vertex at the tip of the letter's triangle (`tip-is-..`).
 --
 -- The tip of L, E and R, and the ends of every triangle, stand behind an edge that is joined to an earlier triangle
 -- (D6). The tip of an S stands behind the last open side of its right branch, which the first pass recorded.
@@ -74,7 +74,8 @@ module _ (vt vs₀ ot : List ℕ) (same : length vs₀ ≡ length vt) where
           earlier = eachN-append (λ y. y < 3 * (k + 1)) rs ((3 * k + 2) ∷ []) low (omega arith, tt);
           loop = rw length-append (omega arith);
           rows = h .rows .1;
-          edges = edges-snoc (vertex vt) us rs nv (3 * k + 2) (h .edges) (rw previous-right (r .1)) (rw next-right (r .0));
+          edges =
+              edges-snoc (vertex vt) us rs nv (3 * k + 2) (h .edges) (rw previous-right (r .1)) (rw next-right (r .0));
           bottom = below (3 * k + 1) (k + 1) (omega arith) (omega arith) (p .0) (A .0 .0);
           noted = h .noted;
           within = omega arith;
@@ -124,7 +125,8 @@ module _ (vt vs₀ ot : List ℕ) (same : length vs₀ ≡ length vt) where
         let two = width-two w (h .holds .sound) in
         let n = h .holds .long in
         let y = each-back (λ y. y < 3 * k) rs (omega arith) (h .earlier) in
-        before-mix vt vs₀ ot same k (3 * k + 2) (back rs) (p .1 .0) y (omega arith) ∙ sym (rw next-right at (A .1 .0 .0))
+        before-mix vt vs₀ ot same k (3 * k + 2) (back rs) (p .1 .0) y (omega arith)
+        ∙ sym (rw next-right at (A .1 .0 .0))
 
     pub tip-is-R : OnLoop (wR w) k nv us rs → tip R k nv ot (half (3 * k)) ≡ vertex vt (3 * k)
     unfolding width size zips tip
@@ -134,7 +136,8 @@ module _ (vt vs₀ ot : List ℕ) (same : length vs₀ ≡ length vt) where
         let two = width-two w (h .holds .sound) in
         let n = h .holds .long in
         let y = each-first (λ y. y < 3 * k) rs (omega arith) (h .earlier) in
-        after-mix vt vs₀ ot same k (3 * k + 1) (head rs) (p .1 .0) y (omega arith) ∙ sym (rw previous-left at (A .1 .0 .1))
+        after-mix vt vs₀ ot same k (3 * k + 1) (head rs) (p .1 .0) y (omega arith)
+        ∙ sym (rw previous-left at (A .1 .0 .1))
 
   pub tip-is-E : (k nv : ℕ) (us rs : List ℕ) → OnLoop wE k nv us rs → tip E k nv ot (half (3 * k)) ≡ vertex vt (3 * k)
   unfolding width size zips tip
@@ -143,7 +146,8 @@ module _ (vt vs₀ ot : List ℕ) (same : length vs₀ ≡ length vt) where
       let A = agreed wE k nv us rs h in
       let n = h .holds .long in
       let y = each-first (λ y. y < 3 * k) rs (omega arith) (h .earlier) in
-      after-mix vt vs₀ ot same k (3 * k + 1) (head rs) (p .0 .0) y (omega arith) ∙ sym (rw previous-left at (A .1 .0 .1))
+      after-mix vt vs₀ ot same k (3 * k + 1) (head rs) (p .0 .0) y (omega arith)
+      ∙ sym (rw previous-left at (A .1 .0 .1))
 
   -- ---- the two branches of an S
 
@@ -206,12 +210,14 @@ module _ (vt vs₀ ot : List ℕ) (same : length vs₀ ≡ length vt) where
         let ua = take (width a) us in
         let ra = take (width a - 1) rs in
         let long = right .holds .long in
-        let bt : back (take (suc (width a - 1)) us) ≡ getD us (width a - 1) 0 = back-take (width a - 1) us (omega arith) in
+        let tip-at : back (take (suc (width a - 1)) us) ≡ getD us (width a - 1) 0 =
+        back-take (width a - 1) us (omega arith) in
         let lo = length-opens (k + 1) a (h .holds .sound .0) in
         let dn = down J (k + 1) a ra (h .holds .sound .0) long (right .holds .zipped) in
         let op = both-back J (opens (k + 1) a) ra (omega arith) (dn .1) in
-        let y = each-back (λ y. y < 3 * k) ra (omega arith) (each-take (λ y. y < 3 * k) (width a - 1) rs (h .earlier)) in
+        let earlier = each-take (λ y. y < 3 * k) (width a - 1) rs (h .earlier) in
+        let y = each-back (λ y. y < 3 * k) ra (omega arith) earlier in
         let f = edges-last (vertex vt) ua ra (omega (arith, right .loop)) edges-right in
         ap (afterFacing ot (half (3 * k))) (mix-at vt vs₀ ot same (3 * k) (omega arith) ∙ h .noted .0)
         ∙ after-mix vt vs₀ ot same k (back (opens (k + 1) a)) (back ra) op y (omega arith)
-        ∙ f .2 ∙ rw (s .3) at bt ∙ sym (h .rows .0 .0)
+        ∙ f .2 ∙ rw (s .3) at tip-at ∙ sym (h .rows .0 .0)

@@ -80,7 +80,8 @@ filling-start s os vs = record { at = omega arith; few = omega arith; len = refl
 
 module _ (s os vs₀ vs : List ℕ) (n k : ℕ) (inv : Filling s os vs₀ vs n k) where
   pub filling-turn : k < length s → (vs′ : List ℕ) (n′ : ℕ) → length vs′ ≡ length vs
-      → vs′ ≡ fillStep (letter (getD s k 0)) k n os vs → n′ ≡ fresh (letter (getD s k 0)) n → Filling s os vs₀ vs′ n′ (k + 1)
+      → vs′ ≡ fillStep (letter (getD s k 0)) k n os vs → n′ ≡ fresh (letter (getD s k 0)) n
+      → Filling s os vs₀ vs′ n′ (k + 1)
   unfolding fillRun
   filling-turn h vs′ n′ l e f =
       let a = letter (getD s k 0) in

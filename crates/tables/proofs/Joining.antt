@@ -1,8 +1,8 @@
 -- Z1 (`run`): the first pass over the letters of a sound word unwinds with the word's open sides, its joins made.
 --
 --   piled bs p     some sides on a stack, the first at the bottom
---   zipJoins k w     the joins of a word in the order in which the pass makes them
---   noted k w vs  table V with the records of its S triangles
+--   zipJoins k w   the joins of a word in the order in which the pass makes them
+--   noted k w vs   table V with the records of its S triangles
 use mathlib.Core.List.{List, [], _++_, _∷_, append-assoc}
 use mathlib.Core.Path.{_∙_, _≡_, ap, refl, sym}
 use Prim.Native.Nat.{_*_, _+_, _/_, _≤_, suc, ℕ}

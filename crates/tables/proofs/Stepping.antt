@@ -1,9 +1,9 @@
 -- One letter in the tables: after the code's stores they hold the machine after that letter.
 --
---   stands-wait   C, L and S: the side x waits
---   stands-R      R: a side is left open
---   stands-end    E: two sides are left open, then the waiting ones are met
---   stands-letter by the letter that a byte stands for
+--   stands-wait     C, L and S: the side x waits
+--   stands-R        R: a side is left open
+--   stands-end      E: two sides are left open, then the waiting ones are met
+--   stands-letter   by the letter that a byte stands for
 use mathlib.Core.List.{List, _∷_}
 use mathlib.Core.Path.{_∙_, _≡_, ap, refl}
 use Prim.Native.Nat.{_*_, _+_, _-_, ℕ}

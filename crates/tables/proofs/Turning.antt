@@ -64,7 +64,8 @@ module _ (t k x p : ℕ) (work os vs : List ℕ) (above : t < p) (within : p ≤
       }
 
   pub turned-C : (b : ℕ) (os′ : List ℕ) (p′ : ℕ) → x % 3 ≡ 1 → b ≡ head (drop p work)
-      → os′ ≡ joinAt b (x / 3) os → p ≤ p′ → p′ ≤ length work → drop p′ work ≡ tail (drop p work) → Turned t k x p work os vs p′ true work os′ vs
+      → os′ ≡ joinAt b (x / 3) os → p ≤ p′ → p′ ≤ length work → drop p′ work ≡ tail (drop p work)
+      → Turned t k x p work os vs p′ true work os′ vs
   unfolding goesOn
   turned-C b os′ p′ e eb eo lo hi d =
       record {

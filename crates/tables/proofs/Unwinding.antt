@@ -7,13 +7,9 @@ use native.Mathlib.Numerals.{add-one}
 use native.Mathlib.Omega.{arith}
 use lib.ListN.{drop, drop-of-length-le, getD, length, take}
 use lib.Seq.{drop-cons, getD-take, length-take-le}
-use Rattle.tables.specs.Standing.{Stands, Turned, goesOn, zipIn}
-use Rattle.tables.specs.Zip.{Zip, unwind}
+use Rattle.tables.specs.Standing.{Stands, Turned, goesOn, unwindIn, zipIn}
+use Rattle.tables.specs.Zip.{unwind}
 use Rattle.theory.proofs.LetterLaws.{is}
-
--- all that waits is met, from tables in which the stacks stand at q and p
-abbrev pub whole : ℕ → ℕ → ℕ → ℕ → List ℕ → List ℕ → List ℕ → Zip
-whole t k q p work os vs = unwind k (drop q (take t work)) (drop p work) os vs
 
 pub record Unwinding (t k q₀ p₀ : ℕ) (work₀ os₀ vs₀ work os vs : List ℕ) (q p : ℕ) : Type 0 where
   pub at : q ≤ t
@@ -22,7 +18,7 @@ pub record Unwinding (t k q₀ p₀ : ℕ) (work₀ os₀ vs₀ work os vs : Lis
   pub len-work : length work ≡ length work₀
   pub len-os : length os ≡ length os₀
   pub len-vs : length vs ≡ length vs₀
-  pub same : whole t k q₀ p₀ work₀ os₀ vs₀ ≡ whole t k q p work os vs
+  pub same : unwindIn k t work₀ os₀ vs₀ q₀ p₀ ≡ unwindIn k t work os vs q p
 
 pub unwinding-start : (t k q p : ℕ) (work os vs : List ℕ) → q ≤ t → t + (t - q) ≤ p → p ≤ length work
     → Unwinding t k q p work os vs work os vs q p
@@ -38,7 +34,7 @@ module _ (t k q₀ p₀ : ℕ) (work₀ os₀ vs₀ work os vs : List ℕ) (q p 
     (inv : Unwinding t k q₀ p₀ work₀ os₀ vs₀ work os vs q p) where
   module _ (h : q < t) (p′ : ℕ) (more : Bool) (work′ os′ vs′ : List ℕ)
       (turn : Turned t k (getD work q 0) p work os vs p′ more work′ os′ vs′) where
-    onward-all : whole t k q₀ p₀ work₀ os₀ vs₀ ≡ goesOn more k (drop (q + 1) (take t work′)) (drop p′ work′) os′ vs′
+    onward-all : unwindIn k t work₀ os₀ vs₀ q₀ p₀ ≡ goesOn more k (drop (q + 1) (take t work′)) (drop p′ work′) os′ vs′
     onward-all =
         inv .same
         ∙ ap (λ (l : List ℕ). unwind k l (drop p work) os vs) (queue t q work h (omega arith))
@@ -59,11 +55,11 @@ module _ (t k q₀ p₀ : ℕ) (work₀ os₀ vs₀ work os vs : List ℕ) (q p 
           same = rw m at onward-all;
         }
 
-    pub unwinding-stop : more ≡ false → Stands t (q + 1) p′ work′ os′ vs′ (whole t k q₀ p₀ work₀ os₀ vs₀)
+    pub unwinding-stop : more ≡ false → Stands t (q + 1) p′ work′ os′ vs′ (unwindIn k t work₀ os₀ vs₀ q₀ p₀)
     unfolding goesOn zipIn
     unwinding-stop m = record { at = omega arith; within = turn .within; is = sym (rw m at onward-all) }
 
-  pub unwinding-end : t ≤ q → Stands t q p work os vs (whole t k q₀ p₀ work₀ os₀ vs₀)
+  pub unwinding-end : t ≤ q → Stands t q p work os vs (unwindIn k t work₀ os₀ vs₀ q₀ p₀)
   unfolding zipIn unwind
   unwinding-end h =
       let n = length-take-le t work (omega arith) in

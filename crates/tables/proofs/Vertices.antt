@@ -42,7 +42,8 @@ module _ (vt vs₀ ot : List ℕ) (same : length vs₀ ≡ length vt) where
   done s k k′ n n′ p q = rw (p, q) refl
 
   pub fill-run : (w : Word) (k nv : ℕ) (us rs : List ℕ) → OnLoop vt vs₀ ot same w k nv us rs → (s : List ℕ)
-      → fillRun (spell w ++ s) k nv ot (half (3 * k)) ≡ fillRun s (k + size w) (nv + news w) ot (half (3 * (k + size w)))
+      → fillRun (spell w ++ s) k nv ot (half (3 * k))
+      ≡ fillRun s (k + size w) (nv + news w) ot (half (3 * (k + size w)))
   unfolding fillRun fresh letter spell size news tip
   fill-run wE k nv us rs h s =
       step E k nv (tip-is-E vt vs₀ ot same k nv us rs h) (h .bottom) (omega arith) s nv
@@ -99,7 +100,8 @@ fill-C w sound two vs n =
       loop = omega arith;
       rows = row .1;
       edges =
-          edges-snoc (vertex vt) us (0 ∷ []) 2 2 edges (rw (previous-right 0) (ends .0)) (rw (next-right 0) (row .0 .0));
+          edges-snoc (vertex vt) us (0 ∷ []) 2 2 edges (rw (previous-right 0) (ends .0))
+          (rw (next-right 0) (row .0 .0));
       bottom = ends-link vt vs₀ ot same 1 1 (omega arith) (omega arith) (p .0) (A .0 .0);
       noted = noted-holds 0 (wC w) vs (omega arith);
       within = omega arith;

@@ -1,11 +1,12 @@
 -- The first pass in the lent tables: the waiting sides are the end of the first t numbers of the work space, the open
 -- sides the end of all of it, so both stacks grow down.
 --
---   zipIn t work os vs q p   the machine that stands in the tables, q and p being the tops of its stacks
---   goesOn more k q p os vs  after one waiting side: the unwinding goes on, or it stops
---   Turned                   one waiting side x is met
---   Room                     room for a letter at triangle k
---   Stands                   the tables hold the machine z
+--   zipIn t work os vs q p        the machine that stands in the tables, q and p being the tops of its stacks
+--   unwindIn k t work os vs q p   all that waits there is met
+--   goesOn more k q p os vs       after one waiting side: the unwinding goes on, or it stops
+--   Turned                        one waiting side x is met
+--   Room                          room for a letter at triangle k
+--   Stands                        the tables hold the machine z
 use mathlib.Core.Bool.{Bool, false, true}
 use mathlib.Core.List.{List, _∷_}
 use mathlib.Core.Path.{_≡_}
@@ -15,6 +16,9 @@ use Rattle.tables.specs.Zip.{Zip, unwind}
 
 unfoldable pub zipIn : ℕ → List ℕ → List ℕ → List ℕ → ℕ → ℕ → Zip
 zipIn t work os vs q p = record { waiting = drop q (take t work); sides = drop p work; os = os; vs = vs }
+
+abbrev pub unwindIn : ℕ → ℕ → List ℕ → List ℕ → List ℕ → ℕ → ℕ → Zip
+unwindIn k t work os vs q p = unwind k (drop q (take t work)) (drop p work) os vs
 
 unfoldable pub goesOn : Bool → ℕ → List ℕ → List ℕ → List ℕ → List ℕ → Zip
 goesOn true k q p os vs = unwind k q p os vs

@@ -2,11 +2,11 @@
 --
 --   waiting sides        its stacks: the left sides that wait to be met, and the sides left open, each the latest first
 --   os vs                table O, and table V, whose tips hold the records of the S triangles until they are filled
---   item a side          what waits: the side of an L, a C or an S as 3 side, 3 side + 1, 3 side + 2
+--   kind x               what waits: the side of an L, a C or an S, kept as 3 side, 3 side + 1, 3 side + 2
 --   unwind k q p os vs   the waiting sides are met until one of an S; k is the next triangle
 --   zipStep a k z        one letter, at triangle k
 --   zipRun s k z         the letters of s, from triangle k on
---   zipO zipV            the tables after all letters, the last open side joined to corner 0
+--   zipO zipV ZipDone    the tables after all letters, the last open side joined to corner 0
 use mathlib.Core.Bool.{cond}
 use mathlib.Core.List.{List, [], _∷_}
 use mathlib.Core.Path.{_≡_}

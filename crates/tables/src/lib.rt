@@ -1,17 +1,17 @@
 // Tables from the letters of a string that closes (document 01, "Tables from a string"), by two forward passes: the
 // neighbours with two stacks in the work space, then the vertices from the neighbours.
 //
-// A side that waits is lent as 3 * side + 0, 1, 2 for the triangle's letter L, C, S. The passes are right for every
-// string; that they make the tables of the string's word is a fact about the lists that they make (proofs/Building).
+// A side that waits is kept as 3 * side + 0, 1, 2 for its triangle's letter L, C, S. Each pass does what its definition
+// says for every string; that they make the tables of a string that closes is a law of the definitions.
 ghost use mathlib.Core.Path.{_≡_};
 ghost use Prim.Native.Nat.{ℕ, _+_, _-_, _*_, _<_, _≤_};
-ghost use lib.ListN.{length, take, drop, set, getD};
+ghost use lib.ListN.{length, set};
 ghost use Rattle.theory.specs.Letter.{letter};
 ghost use Rattle.theory.specs.declared.Letter.the-variants as Is;
 ghost use Rattle.theory.specs.Tables.{joinAt};
 ghost use Rattle.tables.specs.Built.{Buildable, Built};
-ghost use Rattle.tables.specs.Zip.{unwind, zipStep, ZipDone};
-ghost use Rattle.tables.specs.Standing.{zipIn, Turned, Room, Stands};
+ghost use Rattle.tables.specs.Zip.{zipStep, ZipDone};
+ghost use Rattle.tables.specs.Standing.{zipIn, unwindIn, Turned, Room, Stands};
 ghost use Rattle.tables.specs.Fill.{afterFacing, beforeFacing, tip, leftEnd, rightEnd, fillStep, fresh, fillRun};
 use corner::next_of;
 use corner::previous_of;
@@ -82,7 +82,7 @@ fn unwind(
     vs: &mut [u32],
 ) -> Tops
     requires { ⌜ (k ≤ 65536) × (q ≤ t) × (t + (t - q) ≤ p) × (p ≤ length (now work)) ⌝ }
-    ensures { λ r. ⌜ Stands t (r .waiting) (r .sides) (now (work .exit)) (now (os .exit)) (now (vs .exit)) (unwind k (drop q (take t (now (work .entry)))) (drop p (now (work .entry))) (now (os .entry)) (now (vs .entry))) ⌝ }
+    ensures { λ r. ⌜ Stands t (r .waiting) (r .sides) (now (work .exit)) (now (os .exit)) (now (vs .exit)) (unwindIn k t (now (work .entry)) (now (os .entry)) (now (vs .entry)) q p) ⌝ }
 {
     let mut q = q;
     let mut p = p;

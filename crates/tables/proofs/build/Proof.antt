@@ -1,6 +1,7 @@
 -- `build` meets its contract: the two passes one after the other.
 use borrow.Author.Needs.{needs}
 use Rattle.tables.proofs.Building.{built}
+use Rattle.theory.specs.Calls.{filled}
 use Rattle.tables.proofs.build.Statement.{statement}
 use Rattle.tables.proofs.build.Tie as tie
 
@@ -21,8 +22,10 @@ same-length-3 c = search needs
 
 returns : tie.Need-returns
 returns c =
-    let z = c .before .before .before .before .before .before .before .before .before .before .before in
-    built _ _ _ _ _ _ _ (z .before .before .before .before .before .before .before .before .pre) (z .zip .ensures) (c .before .before .fill .ensures)
+    let filled = c .before .before in
+    let zipped = filled .before .before .before .before .before .before .before .before .before in
+    let start = zipped .before .before .before .before .before .before .before .before in
+    built _ _ _ _ _ _ _ (start .pre) (zipped .zip .ensures) (filled .fill .ensures)
 
 pub build-spec : {M : Type 1} → statement M
 build-spec =

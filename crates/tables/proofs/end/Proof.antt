@@ -1,4 +1,5 @@
 -- `end` meets its contract: two pushes, then the unwinding.
+use Prim.Native.Nat.{one}
 use borrow.Author.Needs.{needs}
 use Rattle.tables.proofs.Stepping.{stands-end}
 use Rattle.tables.proofs.end.Statement.{statement}
@@ -39,11 +40,12 @@ same-length-3 c = search needs
 
 returns : tie.Need-returns
 returns c =
-    let u = c .before .before .before .before .before .before in
-    let b = u .before .before .before .before .before .before in
-    let a = b .before .before .before .before in
-    let s = a .before .before .before .before .before in
-    stands-end _ _ _ _ _ _ _ (s .pre) _ _ _ _ (a .push .ensures .0) (a .push .ensures .1) (b .push2 .ensures .0) (b .push2 .ensures .1) _ _ _ _ _ (u .unwind .ensures)
+    let unwound = c .before .before .before .before .before .before in
+    let two = unwound .before .before .before .before .before .before in
+    let one = two .before .before .before .before in
+    let start = one .before .before .before .before .before in
+    stands-end _ _ _ _ _ _ _ (start .pre) _ _ _ _ (one .push .ensures .0) (one .push .ensures .1) (two .push2 .ensures .0)
+    (two .push2 .ensures .1) _ _ _ _ _ (unwound .unwind .ensures)
 
 pub end-spec : {M : Type 1} → statement M
 end-spec =

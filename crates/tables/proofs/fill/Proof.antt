@@ -3,6 +3,7 @@ use Prim.Native.Nat.{_-_}
 use lib.ListN.{length}
 use borrow.Author.Needs.{needs}
 use Rattle.tables.proofs.Filling.{Filling, filling-end, filling-start, filling-turn}
+use Rattle.tables.specs.Fill.{row}
 use Rattle.tables.proofs.fill.Statement.{statement}
 use Rattle.tables.proofs.fill.Tie as tie
 
@@ -35,9 +36,10 @@ loop-less c = search needs
 
 loop-again : tie.Need-loop-again Inv-loop μ-loop
 loop-again c =
-    let u = c .before .before .before .before in
-    let i = u .before .before .before in
-    filling-turn _ _ _ _ _ _ (i .before .loop .inv) (i .loop-test .taken) _ _ (u .row .kept .1 .1 .1 .1 .0) (u .row .ensures) (c .fresh .ensures)
+    let row = c .before .before .before .before in
+    let loop = row .before .before .before in
+    let kept = row .row .kept .1 .1 .1 .1 .0 in
+    filling-turn _ _ _ _ _ _ (loop .before .loop .inv) (loop .loop-test .taken) _ _ kept (row .row .ensures) (c .fresh .ensures)
 
 same-length : tie.Need-same-length Inv-loop μ-loop
 same-length c = search needs

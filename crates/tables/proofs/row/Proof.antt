@@ -1,6 +1,10 @@
 -- `row` meets its contract: three reads, then three stores.
 use borrow.Author.Needs.{needs}
 use Rattle.tables.proofs.Filling.{rowed}
+use Rattle.tables.specs.Fill.{tip}
+use Rattle.theory.proofs.ListLaws.{third}
+use Rattle.theory.specs.Corner.{left, right}
+use types.Run.{first}
 use Rattle.tables.proofs.row.Statement.{statement}
 use Rattle.tables.proofs.row.Tie as tie
 
@@ -42,11 +46,14 @@ same-length c = search needs
 
 returns : tie.Need-returns
 returns c =
-    let p₃ = c .before .before in
-    let p₂ = p₃ .before .before .before .before in
-    let p₁ = p₂ .before .before .before .before in
-    let r = p₁ .before .before in
-    rowed _ _ _ _ _ _ _ _ _ _ _ (r .before .before .before .before .tip .ensures) (r .before .before .left-end .ensures) (r .right-end .ensures) (p₁ .put .ensures) (p₂ .put2 .ensures) (p₃ .put3 .ensures)
+    let third = c .before .before in
+    let second = third .before .before .before .before in
+    let first = second .before .before .before .before in
+    let right = first .before .before in
+    let left = right .before .before in
+    let tip = left .before .before in
+    rowed _ _ _ _ _ _ _ _ _ _ _ (tip .tip .ensures) (left .left-end .ensures) (right .right-end .ensures)
+    (first .put .ensures) (second .put2 .ensures) (third .put3 .ensures)
 
 pub row-spec : {M : Type 1} → statement M
 row-spec =

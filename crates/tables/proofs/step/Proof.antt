@@ -3,6 +3,8 @@ use mathlib.Core.Path.{_∙_, sym}
 use borrow.Author.Needs.{needs}
 use Rattle.tables.proofs.Stepping.{stands-R, stands-letter, stands-wait}
 use Rattle.tables.specs.Zip.{zipStep}
+use Rattle.theory.specs.Letter.{byte}
+use Rattle.theory.specs.Tables.{joined}
 use Rattle.theory.specs.declared.Letter.the-variants.{C, E, L, R, S}
 use Rattle.tables.proofs.step.Statement.{statement}
 use Rattle.tables.proofs.step.Tie as tie
@@ -103,11 +105,13 @@ same-length-2 c = search needs
 returns : tie.Need-returns
 unfolding zipStep
 returns c =
-    let u = c .before .before .before .before in
-    let e = u .before .before .before in
-    let l = e .before .before in
-    let s = l .before .before .before .before in
-    stands-letter _ _ C _ (sym (e .enum-told .given .1) ∙ l .letter-of .ensures) (stands-wait _ _ _ _ _ _ _ (s .pre) _ _ _ _ (u .wait .ensures .0) (u .wait .ensures .1) (u .wait .ensures .2))
+    let waited = c .before .before .before .before in
+    let told = waited .before .before .before in
+    let byte = told .before .before in
+    let start = byte .before .before .before .before in
+    let w = waited .wait .ensures in
+    stands-letter _ _ C _ (sym (told .enum-told .given .1) ∙ byte .letter-of .ensures)
+    (stands-wait _ _ _ _ _ _ _ (start .pre) _ _ _ _ (w .0) (w .1) (w .2))
 
 same-length-3 : tie.Need-same-length-3
 same-length-3 c = search needs
@@ -118,11 +122,13 @@ same-length-4 c = search needs
 returns-2 : tie.Need-returns-2
 unfolding zipStep
 returns-2 c =
-    let u = c .before .before .before .before in
-    let e = u .before .before .before in
-    let l = e .before .before in
-    let s = l .before .before .before .before in
-    stands-letter _ _ L _ (sym (e .enum-told2 .given .1) ∙ l .letter-of .ensures) (stands-wait _ _ _ _ _ _ _ (s .pre) _ _ _ _ (u .wait2 .ensures .0) (u .wait2 .ensures .1) (u .wait2 .ensures .2))
+    let waited = c .before .before .before .before in
+    let told = waited .before .before .before in
+    let byte = told .before .before in
+    let start = byte .before .before .before .before in
+    let w = waited .wait2 .ensures in
+    stands-letter _ _ L _ (sym (told .enum-told2 .given .1) ∙ byte .letter-of .ensures)
+    (stands-wait _ _ _ _ _ _ _ (start .pre) _ _ _ _ (w .0) (w .1) (w .2))
 
 same-length-5 : tie.Need-same-length-5
 same-length-5 c = search needs
@@ -136,11 +142,10 @@ same-length-7 c = search needs
 returns-3 : tie.Need-returns-3
 unfolding zipStep
 returns-3 c =
-    let u = c .before .before .before .before .before .before in
-    let e = u .before .before .before .before in
-    let l = e .before .before in
-    let s = l .before .before .before .before in
-    stands-letter _ _ E _ (sym (e .enum-told3 .given .1) ∙ l .letter-of .ensures) (u .end .ensures)
+    let ended = c .before .before .before .before .before .before in
+    let told = ended .before .before .before .before in
+    let byte = told .before .before in
+    stands-letter _ _ E _ (sym (told .enum-told3 .given .1) ∙ byte .letter-of .ensures) (ended .end .ensures)
 
 same-length-8 : tie.Need-same-length-8
 same-length-8 c = search needs
@@ -151,12 +156,13 @@ same-length-9 c = search needs
 returns-4 : tie.Need-returns-4
 unfolding zipStep
 returns-4 c =
-    let u = c .before .before in
-    let j = u .before .before .before .before in
-    let e = j .before .before in
-    let l = e .before .before in
-    let s = l .before .before .before .before in
-    stands-letter _ _ R _ (sym (e .enum-told4 .given .1) ∙ l .letter-of .ensures) (stands-R _ _ _ _ _ _ _ (s .pre) _ _ _ (j .join .ensures) (u .push .ensures .0) (u .push .ensures .1))
+    let pushed = c .before .before in
+    let joined = pushed .before .before .before .before in
+    let told = joined .before .before in
+    let byte = told .before .before in
+    let start = byte .before .before .before .before in
+    stands-letter _ _ R _ (sym (told .enum-told4 .given .1) ∙ byte .letter-of .ensures)
+    (stands-R _ _ _ _ _ _ _ (start .pre) _ _ _ (joined .join .ensures) (pushed .push .ensures .0) (pushed .push .ensures .1))
 
 same-length-10 : tie.Need-same-length-10
 same-length-10 c = search needs
@@ -167,11 +173,13 @@ same-length-11 c = search needs
 returns-5 : tie.Need-returns-5
 unfolding zipStep
 returns-5 c =
-    let u = c .before .before .before .before in
-    let e = u .before .before .before in
-    let l = e .before .before in
-    let s = l .before .before .before .before in
-    stands-letter _ _ S _ (sym (e .enum-told5 .given .1) ∙ l .letter-of .ensures) (stands-wait _ _ _ _ _ _ _ (s .pre) _ _ _ _ (u .wait3 .ensures .0) (u .wait3 .ensures .1) (u .wait3 .ensures .2))
+    let waited = c .before .before .before .before in
+    let told = waited .before .before .before in
+    let byte = told .before .before in
+    let start = byte .before .before .before .before in
+    let w = waited .wait3 .ensures in
+    stands-letter _ _ S _ (sym (told .enum-told5 .given .1) ∙ byte .letter-of .ensures)
+    (stands-wait _ _ _ _ _ _ _ (start .pre) _ _ _ _ (w .0) (w .1) (w .2))
 
 pub step-spec : {M : Type 1} → statement M
 step-spec =

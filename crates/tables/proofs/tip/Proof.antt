@@ -2,6 +2,7 @@
 use mathlib.Core.Path.{_∙_, refl, sym}
 use borrow.Author.Needs.{needs}
 use Rattle.tables.proofs.Filling.{tip-letter, tip-recorded}
+use Rattle.theory.specs.Letter.{byte}
 use Rattle.theory.specs.declared.Letter.the-variants.{C, E, L, R, S}
 use Rattle.tables.proofs.tip.Statement.{statement}
 use Rattle.tables.proofs.tip.Tie as tie
@@ -70,19 +71,32 @@ returns c = tip-letter _ _ _ _ C _ (sym (c .enum-told .given .1) ∙ c .before .
 
 returns-2 : tie.Need-returns-2
 unfolding Fill.tip
-returns-2 c = tip-letter _ _ _ _ L _ (sym (c .before .enum-told2 .given .1) ∙ c .before .before .before .letter-of .ensures) (c .before-facing .ensures)
+returns-2 c =
+    let told = c .before in
+    let byte = told .before .before in
+    tip-letter _ _ _ _ L _ (sym (told .enum-told2 .given .1) ∙ byte .letter-of .ensures) (c .before-facing .ensures)
 
 returns-3 : tie.Need-returns-3
 unfolding Fill.tip
-returns-3 c = tip-letter _ _ _ _ E _ (sym (c .before .enum-told3 .given .1) ∙ c .before .before .before .letter-of .ensures) (c .after-facing .ensures)
+returns-3 c =
+    let told = c .before in
+    let byte = told .before .before in
+    tip-letter _ _ _ _ E _ (sym (told .enum-told3 .given .1) ∙ byte .letter-of .ensures) (c .after-facing .ensures)
 
 returns-4 : tie.Need-returns-4
 unfolding Fill.tip
-returns-4 c = tip-letter _ _ _ _ R _ (sym (c .before .enum-told4 .given .1) ∙ c .before .before .before .letter-of .ensures) (c .after-facing2 .ensures)
+returns-4 c =
+    let told = c .before in
+    let byte = told .before .before in
+    tip-letter _ _ _ _ R _ (sym (told .enum-told4 .given .1) ∙ byte .letter-of .ensures) (c .after-facing2 .ensures)
 
 returns-5 : tie.Need-returns-5
 unfolding Fill.tip
-returns-5 c = tip-letter _ _ _ _ S _ (sym (c .before .before .enum-told5 .given .1) ∙ c .before .before .before .before .letter-of .ensures) (tip-recorded _ _ _ _ _ (c .before .at .ensures) (c .after-facing3 .ensures))
+returns-5 c =
+    let told = c .before .before in
+    let byte = told .before .before in
+    tip-letter _ _ _ _ S _ (sym (told .enum-told5 .given .1) ∙ byte .letter-of .ensures)
+    (tip-recorded _ _ _ _ _ (c .before .at .ensures) (c .after-facing3 .ensures))
 
 pub tip-spec : {M : Type 1} → statement M
 tip-spec =

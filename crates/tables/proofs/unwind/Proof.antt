@@ -40,18 +40,21 @@ same-length-3 c = search needs
 
 returns : tie.Need-returns Inv-loop μ-loop
 returns c =
-    let i = c .before .before .before .before .before .before .before .before .before .before .before .before .before in
-    let u = c .before .before .before .before .before .before .before .before in
-    unwinding-stop _ _ _ _ _ _ _ _ _ _ _ _ (i .before .loop .inv) (i .loop-test .taken) _ _ _ _ _ (u .meet .ensures) (not-true _ (c .if1 .taken))
+    let met = c .before .before .before .before .before .before .before .before in
+    let loop = met .before .before .before .before .before in
+    unwinding-stop _ _ _ _ _ _ _ _ _ _ _ _ (loop .before .loop .inv) (loop .loop-test .taken) _ _ _ _ _ (met .meet .ensures)
+    (not-true _ (c .if1 .taken))
 
 loop-less : tie.Need-loop-less Inv-loop μ-loop
 loop-less c = search needs
 
 loop-again : tie.Need-loop-again Inv-loop μ-loop
 loop-again c =
-    let i = c .before .before .before .before .before .before .before .before .before .before .before .before .before in
-    let u = c .before .before .before .before .before .before .before .before in
-    unwinding-turn _ _ _ _ _ _ _ _ _ _ _ _ (i .before .loop .inv) (i .loop-test .taken) _ _ _ _ _ (u .meet .ensures) (not-false _ (c .if1 .left)) (u .meet .kept .1 .1 .1 .1 .0) (u .meet .kept .1 .1 .1 .1 .1 .0) (u .meet .kept .1 .1 .1 .1 .1 .1 .0)
+    let met = c .before .before .before .before .before .before .before .before in
+    let loop = met .before .before .before .before .before in
+    let kept = met .meet .kept .1 .1 .1 .1 in
+    unwinding-turn _ _ _ _ _ _ _ _ _ _ _ _ (loop .before .loop .inv) (loop .loop-test .taken) _ _ _ _ _ (met .meet .ensures)
+    (not-false _ (c .if1 .left)) (kept .0) (kept .1 .0) (kept .1 .1 .0)
 
 same-length-4 : tie.Need-same-length-4 Inv-loop μ-loop
 same-length-4 c = search needs

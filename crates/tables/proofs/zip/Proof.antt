@@ -4,6 +4,7 @@ use native.Mathlib.Omega.{arith}
 use lib.ListN.{length}
 use borrow.Author.Needs.{needs}
 use Rattle.tables.proofs.Zipping.{Zipping, zipping-end, zipping-room, zipping-start, zipping-turn}
+use Rattle.theory.specs.Tables.{joined}
 use Rattle.tables.proofs.zip.Statement.{statement}
 use Rattle.tables.proofs.zip.Tie as tie
 
@@ -26,9 +27,9 @@ cast-step c = search needs
 
 step-requires : tie.Need-step-requires Inv-loop μ-loop
 step-requires c κs =
-    let i = c .before .before .before .before in
-    let s = i .before .before .before .before .before .before in
-    zipping-room _ _ _ _ _ _ _ _ _ _ (i .before .loop .inv) (s .pre .1) (s .pre .0) (i .loop-test .taken)
+    let loop = c .before .before .before .before in
+    let start = loop .before .before .before .before .before .before in
+    zipping-room _ _ _ _ _ _ _ _ _ _ (loop .before .loop .inv) (start .pre .1) (start .pre .0) (loop .loop-test .taken)
 
 add-k : tie.Need-add-k Inv-loop μ-loop
 add-k c = search needs
@@ -38,10 +39,12 @@ loop-less c = search needs
 
 loop-again : tie.Need-loop-again Inv-loop μ-loop
 loop-again c =
-    let u = c .before .before .before .before .before .before in
-    let i = u .before .before .before .before .before in
-    let s = i .before .before .before .before .before .before in
-    zipping-turn _ _ _ _ _ _ _ _ _ _ (i .before .loop .inv) (s .pre .1) (i .loop-test .taken) _ _ _ _ _ (u .step .kept .1 .1 .1 .1 .1 .0) (u .step .kept .1 .1 .1 .1 .1 .1 .0) (u .step .kept .1 .1 .1 .1 .1 .1 .1 .0) (u .step .ensures)
+    let stepped = c .before .before .before .before .before .before in
+    let loop = stepped .before .before .before .before .before in
+    let start = loop .before .before .before .before .before .before in
+    let kept = stepped .step .kept .1 .1 .1 .1 .1 in
+    zipping-turn _ _ _ _ _ _ _ _ _ _ (loop .before .loop .inv) (start .pre .1) (loop .loop-test .taken) _ _ _ _ _ (kept .0)
+    (kept .1 .0) (kept .1 .1 .0) (stepped .step .ensures)
 
 top-requires : tie.Need-top-requires Inv-loop μ-loop
 top-requires c κs = search needs
@@ -60,8 +63,12 @@ same-length-3 c = search needs
 
 returns : tie.Need-returns Inv-loop μ-loop
 returns c =
-    let l = c .before .before .before .before .before .before in
-    zipping-end _ _ _ _ _ _ _ _ _ _ (l .before .loop .inv) (l .before .before .before .before .before .before .pre .1) (l .loop-test .left) _ _ (c .before .before .before .before .top .ensures) (c .before .before .join .ensures)
+    let joined = c .before .before in
+    let top = joined .before .before in
+    let loop = top .before .before in
+    let start = loop .before .before .before .before .before .before in
+    zipping-end _ _ _ _ _ _ _ _ _ _ (loop .before .loop .inv) (start .pre .1) (loop .loop-test .left) _ _ (top .top .ensures)
+    (joined .join .ensures)
 
 pub zip-spec : {M : Type 1} → statement M
 zip-spec =
