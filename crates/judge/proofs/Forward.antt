@@ -1,6 +1,6 @@
 -- The two loops that go forward: what the test for a letter says, and the turns and ends of counting the wanted words.
 --
---   foreign ours                       a byte that is no letter, that is one
+--   no-letter ours                     a byte that is no letter, that is one
 --   want-turn want-stop want-short     counting; wanted-le bounds the count
 use mathlib.Core.Bool.{false, true}
 use mathlib.Core.List.{List, [], _∷_}
@@ -17,9 +17,9 @@ use Rattle.theory.specs.declared.Letter.{Letter}
 use Rattle.theory.specs.declared.Letter.the-variants.{C, E, L, R, S}
 
 module _ (b x : ℕ) (a : Letter) (p : x ≡ byte a) (q : a ≡ letter b) where
-  pub foreign : (x ≡ b → ⊥) → isLetter b ≡ false
+  pub no-letter : (x ≡ b → ⊥) → isLetter b ≡ false
   unfolding isLetter
-  foreign h = ne-eqb (byte (letter b)) b (λ e. h (p ∙ ap byte q ∙ e))
+  no-letter h = ne-eqb (byte (letter b)) b (λ e. h (p ∙ ap byte q ∙ e))
 
   pub ours : x ≡ b → isLetter b ≡ true
   unfolding isLetter
@@ -42,7 +42,8 @@ module _ (s : List ℕ) (i : ℕ) where
       go [] = refl
       go (x ∷ t) = refl
 
-  pub want-short : (n : ℕ) → length s ≤ i → (n ≡ 0 → ⊥) → wordsEnd s 1 ≡ i + wordsEnd (drop i s) n → i + 1 ≡ wordsEnd s 1
+  pub want-short : (n : ℕ) → length s ≤ i → (n ≡ 0 → ⊥) → wordsEnd s 1 ≡ i + wordsEnd (drop i s) n
+      → i + 1 ≡ wordsEnd s 1
   unfolding wordsEnd
   want-short zero h k e = absurd (k refl)
   want-short (suc n) h k e = omega (arith, rw (drop-of-length-le s h) at e)

@@ -3,4 +3,3 @@ pub mod WidthLaws
 pub mod Stores
 pub mod Forward
 pub mod Passes
-pub mod Checks

@@ -1,11 +1,11 @@
 -- The loop that reads the letters from the right: its invariant, how it begins, a turn of it, and its ends.
 --
---   Passing s work₀ work p i   the letters from i on are read: work from p on is the widths of their words, and no C among
---                              them stands before a word of width 2
+--   Passing s work₀ work p i   the letters from i on are read: work from p on is the widths of their words, and no C
+--                              among them stands before a word of width 2
 --   begins ready turns         the invariant, and what a step asks for
 --   stops ends-wide ends-done  the three answers
-use mathlib.Core.Bool.{Bool, _&&_, false, not, true}
-use mathlib.Core.List.{List, [], _∷_}
+use mathlib.Core.Bool.{_&&_, false, not, true}
+use mathlib.Core.List.{List}
 use mathlib.Core.Path.{_∙_, _≡_, ap, refl, sym}
 use Prim.Native.Nat.{_*_, _-_, _<_, _≤_, suc, zero, ℕ}
 use native.Mathlib.Omega.{arith}
@@ -14,11 +14,11 @@ use lib.ListN.{drop, getD, length, length-drop}
 use lib.Seq.{drop-cons, drop-length}
 use borrow.Author.Tests.{eq-eqb, ne-eqb}
 use Rattle.judge.proofs.WidthLaws.{before-length, before-total, before-wide, letter-new, two-first, widths, widths-before}
-use Rattle.judge.specs.Widths.{Ready, Wide, total, widthsBefore}
-use Rattle.theory.proofs.AnswerLaws.{none-broken, rung-passed, rung-stops, whole-passed, whole-stops}
+use Rattle.judge.specs.Widths.{Ready, Stepped, Wide, total, widthsBefore}
 use Rattle.theory.proofs.GreatestLaws.{Above, down-end, down-stop, down-turn}
+use Rattle.theory.proofs.JudgeLaws.{breaks-seven, breaks-six, seven-passed}
 use Rattle.theory.proofs.TestLaws.{and-rest}
-use Rattle.theory.specs.Answer.{Rung, firstBroken, refused, whole}
+use Rattle.theory.specs.Answer.{firstBroken, refused}
 use Rattle.theory.specs.Judge.{letterRungs, pinchedAt, stringDone}
 use Rattle.theory.specs.Letter.{byte, letter}
 use Rattle.theory.specs.Lists.{greatest, head}
@@ -70,17 +70,20 @@ module _ (s w₀ w : List ℕ) (p i : ℕ) (inv : Passing s w₀ w p i) (more : 
   pub ready : length s ≤ 65536 → length s ≤ length w₀ → Ready p w
   ready h k = record { room = omega arith; within = inv .within; wide = inv .wide; small = omega arith }
 
-  pub turns : (w′ : List ℕ) (r : ℕ) → length w′ ≡ length w → (eqb (getD s (i - 1) 0) (byte C) && eqb (head (drop p w)) 2) ≡ false
-      → r ≤ length w′ → drop r w′ ≡ widthsBefore (letter (getD s (i - 1) 0)) (drop p w) → Passing s w₀ w′ r (i - 1)
-  turns w′ r same calm within e =
+  pub turns : (w′ : List ℕ) (r : ℕ) → length w′ ≡ length w
+      → (eqb (getD s (i - 1) 0) (byte C) && eqb (head (drop p w)) 2) ≡ false
+      → Stepped (letter (getD s (i - 1) 0)) w p w′ r → Passing s w₀ w′ r (i - 1)
+  turns w′ r same calm stepped =
       let b = getD s (i - 1) 0 in
       let a = letter b in
+      let e = stepped .stack in
+      let good = ap not (sym (test-same s (drop p w) i more (inv .stack)) ∙ calm) in
       record {
         at = omega arith;
         same = same ∙ inv .same;
-        within = within;
+        within = stepped .within;
         stack = e ∙ ap (widthsBefore a) (inv .stack) ∙ sym (widths-cons s i more (inv .at));
-        free = down-turn (λ q. not (pinchedAt s q)) (length s) i (inv .free) (ap not (sym (test-same s (drop p w) i more (inv .stack)) ∙ calm));
+        free = down-turn (λ q. not (pinchedAt s q)) (length s) i (inv .free) good;
         wide = rw e (before-wide a (drop p w) (λ new. and-rest _ _ (letter-new b new) calm) (inv .wide));
         small = rw e (omega (arith, before-total a (drop p w)));
         room = omega (arith, ap length e, length-drop r w′, length-drop p w, before-length a (drop p w));
@@ -89,29 +92,24 @@ module _ (s w₀ w : List ℕ) (p i : ℕ) (inv : Passing s w₀ w p i) (more : 
   pub stops : (eqb (getD s (i - 1) 0) (byte C) && eqb (head (drop p w)) 2) ≡ true
       → refused 6 (i - 1) ≡ firstBroken (drop 3 (letterRungs s)) (stringDone s)
   stops e =
-      let ok : ℕ → Bool = λ q. not (pinchedAt s q) in
       let bad = ap not (sym (test-same s (drop p w) i more (inv .stack)) ∙ e) in
-      let spot = down-stop ok (length s) i (inv .free) more (inv .at) bad in
-      let six : Rung = record { number = 6; place = greatest ok (length s); limit = length s } in
-      sym (rung-stops six (whole 7 (eqb (width (wordOf s)) 2) ∷ []) (stringDone s) (omega (arith, spot, inv .at)) ∙ ap (refused 6) spot)
+      let last = down-stop (λ q. not (pinchedAt s q)) (length s) i (inv .free) more (inv .at) bad in
+      breaks-six s (i - 1) (omega (arith, inv .at)) last
 
 module _ (s w₀ w : List ℕ) (p i : ℕ) (inv : Passing s w₀ w p i) (end : i ≤ 0) where
-  six-passed : firstBroken (drop 3 (letterRungs s)) (stringDone s) ≡ firstBroken (whole 7 (eqb (width (wordOf s)) 2) ∷ []) (stringDone s)
-  six-passed =
-      let ok : ℕ → Bool = λ q. not (pinchedAt s q) in
-      let six : Rung = record { number = 6; place = greatest ok (length s); limit = length s } in
-      rung-passed six (whole 7 (eqb (width (wordOf s)) 2) ∷ []) (stringDone s) (omega (arith, down-end ok (length s) i (inv .free) end))
+  none-pinched : greatest (λ q. not (pinchedAt s q)) (length s) ≡ length s
+  none-pinched = down-end (λ q. not (pinchedAt s q)) (length s) i (inv .free) end
 
   first-same : eqb (head (drop p w)) 2 ≡ eqb (width (wordOf s)) 2
   first-same = go i end (inv .stack)
     where
-      go : (i : ℕ) → i ≤ 0 → drop p w ≡ widths (words (drop i s)) → eqb (head (drop p w)) 2 ≡ eqb (width (wordOf s)) 2
+      go : (i : ℕ) → i ≤ 0 → drop p w ≡ widths (words (drop i s))
+          → eqb (head (drop p w)) 2 ≡ eqb (width (wordOf s)) 2
       go zero h e = rw e (two-first (words s))
       go (suc i) h e = absurd (omega arith)
 
   pub ends-wide : (head (drop p w) ≡ 2 → ⊥) → refused 7 0 ≡ firstBroken (drop 3 (letterRungs s)) (stringDone s)
-  ends-wide h = sym (six-passed ∙ whole-stops 7 (eqb (width (wordOf s)) 2) [] (stringDone s) (sym first-same ∙ ne-eqb (head (drop p w)) 2 h))
+  ends-wide h = breaks-seven s none-pinched (sym first-same ∙ ne-eqb (head (drop p w)) 2 h)
 
   pub ends-done : head (drop p w) ≡ 2 → stringDone s ≡ firstBroken (drop 3 (letterRungs s)) (stringDone s)
-  ends-done h =
-      sym (six-passed ∙ whole-passed 7 (eqb (width (wordOf s)) 2) [] (stringDone s) (sym first-same ∙ eq-eqb (head (drop p w)) 2 h) ∙ none-broken (stringDone s))
+  ends-done h = seven-passed s none-pinched (sym first-same ∙ eq-eqb (head (drop p w)) 2 h)

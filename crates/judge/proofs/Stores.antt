@@ -1,7 +1,7 @@
 -- What a store does to a stack of widths that is work from p on: the letters C, L and S on it.
 --
 --   lower-set raise-set merge-set    after the store of one width, of the sum of two
---   pushed                           after the push of 3, for E
+--   pushed changed                   after the push of 3, for E, and where only the top is changed
 --   changes-none merge-none          a stack too short for the letter
 --   turns-same                       L and R are alike to the widths
 --   top-total two-total top-wide     the bounds of its first entries
@@ -12,7 +12,7 @@ use native.Mathlib.Numerals.{add-one}
 use native.Mathlib.Omega.{arith}
 use lib.ListN.{drop, drop-of-length-le, getD, length, length-drop, length-set, set}
 use lib.Seq.{drop-cons, drop-length}
-use Rattle.judge.specs.Widths.{Wide, total, widthsBefore}
+use Rattle.judge.specs.Widths.{Stepped, Wide, total, widthsBefore}
 use Rattle.lent.proofs.Stacks.{push-set, top-set}
 use Rattle.theory.specs.declared.Letter.{Letter}
 use Rattle.theory.specs.declared.Letter.the-variants.{C, E, L, R, S}
@@ -26,7 +26,8 @@ module _ (l : List ℕ) (p : ℕ) where
   unfolding widthsBefore
   raise-set h = rw (drop-cons l p 0 h) (top-set l p (getD l p 0 + 1) h)
 
-  pub merge-set : p + 1 < length l → drop (p + 1) (set l (p + 1) (getD l p 0 + getD l (p + 1) 0 - 1)) ≡ widthsBefore S (drop p l)
+  pub merge-set : p + 1 < length l
+      → drop (p + 1) (set l (p + 1) (getD l p 0 + getD l (p + 1) 0 - 1)) ≡ widthsBefore S (drop p l)
   unfolding widthsBefore
   merge-set h =
       let k : suc p < length l = omega arith in
@@ -70,10 +71,20 @@ turns-same [] = refl
 turns-same (w ∷ st) = refl
 
 pub pushed : (l l′ : List ℕ) (p r : ℕ) → 0 < p → p ≤ length l → r ≡ p - 1 → l′ ≡ set l (p - 1) 3
-    → (r ≤ length l′) × (drop r l′ ≡ widthsBefore E (drop p l))
+    → Stepped E l p l′ r
 unfolding widthsBefore
-pushed l l′ p r h k e f = rw (e, f, length-set l (p - 1) 3) (omega arith, push-set l p 3 h k)
+pushed l l′ p r h k e f =
+    rw (e, f)
+    record {
+      within = rw (length-set l (p - 1) 3) (omega arith);
+      stack = push-set l p 3 h k;
+    }
+
+-- a store that leaves the stack where it is
+pub changed : (a : Letter) (l l′ : List ℕ) (p : ℕ) → length l′ ≡ length l → p ≤ length l
+    → drop p l′ ≡ widthsBefore a (drop p l) → Stepped a l p l′ p
+changed a l l′ p same h e = record { within = omega arith; stack = e }
 
 -- an arm of a match knows the letter
-pub for-letter : {a b : Letter} (r st : List ℕ) → a ≡ b → r ≡ widthsBefore a st → r ≡ widthsBefore b st
-for-letter r st e h = rw (← e) h
+pub for-letter : {a b : Letter} {l l′ : List ℕ} {p r : ℕ} → a ≡ b → Stepped a l p l′ r → Stepped b l p l′ r
+for-letter e h = rw (← e) h

@@ -1,5 +1,5 @@
 // Judging the letters of a string (document 01, "Numbers of an answer", 3 to 7): forward for the first byte that is no
-// letter, forward for the end of the first word, and from the right with a stack of widths. The stack is work from p on.
+// letter, forward for the end of the first word, and from the right with a stack of widths, which is work from p on.
 ghost use mathlib.Core.Path.{_≡_};
 ghost use mathlib.Core.Bool.{_&&_};
 ghost use mathlib.Core.List.{List};
@@ -11,7 +11,7 @@ ghost use Rattle.theory.specs.Answer.{firstBroken};
 ghost use Rattle.theory.specs.Letter.{byte, letter, isLetter};
 ghost use Rattle.theory.specs.Judge.{wanted, wordsEnd, letterRungs, stringDone, letterAnswer};
 ghost use Rattle.theory.specs.declared.Letter.the-variants as Letter;
-ghost use Rattle.judge.specs.Widths.{widthsBefore, total, Wide, Ready};
+ghost use Rattle.judge.specs.Widths.{widthsBefore, total, Wide, Ready, Stepped};
 use theory::Answer;
 use theory::Letter;
 
@@ -93,7 +93,7 @@ fn raise(work: &mut [u32], p: usize)
 
 fn merge(work: &mut [u32], p: usize) -> usize
     requires { ⌜ Ready p (now work) ⌝ }
-    ensures { λ r. ⌜ (r ≤ length (now (work .exit))) × (drop r (now (work .exit)) ≡ widthsBefore Letter.S (drop p (now (work .entry)))) ⌝ }
+    ensures { λ r. ⌜ Stepped Letter.S (now (work .entry)) p (now (work .exit)) r ⌝ }
 {
     if work.len() - p < 2 {
         return work.len();
@@ -105,7 +105,7 @@ fn merge(work: &mut [u32], p: usize) -> usize
 // The stack with the letter b before its words: where its top stands then.
 fn step(b: u8, work: &mut [u32], p: usize) -> usize
     requires { ⌜ Ready p (now work) ⌝ }
-    ensures { λ r. ⌜ (r ≤ length (now (work .exit))) × (drop r (now (work .exit)) ≡ widthsBefore (letter b) (drop p (now (work .entry)))) ⌝ }
+    ensures { λ r. ⌜ Stepped (letter b) (now (work .entry)) p (now (work .exit)) r ⌝ }
 {
     match lent::letter_of(b) {
         Letter::E => lent::push(work, p, 3),

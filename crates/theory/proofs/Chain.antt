@@ -8,7 +8,6 @@ use native.Mathlib.Omega.{arith}
 use Rattle.theory.proofs.CornerLaws.{next-left, next-right, next-tip, previous-left, previous-right, previous-tip}
 use Rattle.theory.proofs.ListLaws.{snoc-view}
 use Rattle.theory.proofs.Opens.{length-opens, mates, opens}
-use Rattle.theory.proofs.Swings.{To}
 use Rattle.theory.specs.Corner.{next, previous}
 use Rattle.theory.specs.Lists.{back, front}
 use Rattle.theory.specs.Tables.{Pair, _⇌_, links}
@@ -38,7 +37,8 @@ pub each-map : (P Q : ℕ → ℕ → Type 0) (f : (x y : ℕ) → P x y → Q x
 each-map P Q f [] h = tt
 each-map P Q f ((x ⇌ y) ∷ a) h = (f x y (h .0), each-map P Q f a (h .1))
 
-pub each-both : (P Q M : ℕ → ℕ → Type 0) (f : (x y : ℕ) → P x y → Q x y → M x y) (a : List Pair) → Each P a → Each Q a → Each M a
+pub each-both : (P Q M : ℕ → ℕ → Type 0) (f : (x y : ℕ) → P x y → Q x y → M x y) (a : List Pair)
+    → Each P a → Each Q a → Each M a
 each-both P Q M f [] h i = tt
 each-both P Q M f ((x ⇌ y) ∷ a) h i = (f x y (h .0) (i .0), each-both P Q M f a (h .1) (i .1))
 

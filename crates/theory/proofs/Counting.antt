@@ -85,6 +85,13 @@ bit-off x y h = go (eqb x y) refl
     go true q = absurd (h (eqb→eq x y (rw q tt)))
     go false q = refl
 
+pub bit-one : (x y : ℕ) → 1 ≤ bit (eqb x y) → x ≡ y
+bit-one x y h = go (ℕ-discrete x y)
+  where
+    go : Dec (x ≡ y) → x ≡ y
+    go (yes q) = q
+    go (no q) = let z = bit-off x y q in absurd (omega arith)
+
 pub bit-two : (x y z : ℕ) → y < z → bit (eqb x y) + bit (eqb x z) ≤ 1
 unfolding bit
 bit-two x y z h = go (eqb x y) (eqb x z) refl refl

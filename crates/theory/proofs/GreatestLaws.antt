@@ -21,7 +21,8 @@ module _ (ok : ℕ → Bool) where
   or-at zero d x h upper bad = absurd (omega arith)
   or-at (suc n) d x h upper bad = go (ℕ-discrete n x) (or-at n d x)
     where
-      go : Dec (n ≡ x) → (x < n → Above ok n (suc x) → ok x ≡ false → greatestOr ok n d ≡ x) → cond (ok n) (greatestOr ok n d) n ≡ x
+      go : Dec (n ≡ x) → (x < n → Above ok n (suc x) → ok x ≡ false → greatestOr ok n d ≡ x)
+          → cond (ok n) (greatestOr ok n d) n ≡ x
       go (yes q) ih = let e : ok n ≡ false = rw q bad in rw e q
       go (no q) ih = rw (upper n (omega arith) (omega arith)) (ih (omega arith) (λ y a b. upper y a (omega arith)) bad)
 

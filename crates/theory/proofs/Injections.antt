@@ -51,6 +51,15 @@ vals-in x (suc n) h = go (ℕ-discrete x n) (vals-in x n)
     go (yes p) f = let b : bit (eqb x n) ≡ 1 = rw (← p) (bit-refl x) in omega arith
     go (no p) f = let below : x < n = omega arith in let z = f below in omega arith
 
+pub vals-has : (f : ℕ → ℕ) (n j x : ℕ) → j < n → x ≡ f j → 1 ≤ count x (vals f n)
+unfolding vals count
+vals-has f zero j x h q = absurd (omega arith)
+vals-has f (suc n) j x h q = go (ℕ-discrete j n) (λ z. vals-has f n j x z q)
+  where
+    go : Dec (j ≡ n) → (j < n → 1 ≤ count x (vals f n)) → 1 ≤ count x (f n ∷ vals f n)
+    go (yes p) i = let w : x ≡ f n = q ∙ ap f p in let b = bit-refl (f n) in rw w (omega arith)
+    go (no p) i = let b = i (omega arith) in omega arith
+
 -- F2
 pub inj-bound : (g : ℕ → ℕ) (m n : ℕ) → ((i : ℕ) → i < m → g i < n) → ((i j : ℕ) → i < m → j < m → g i ≡ g j → i ≡ j)
     → m ≤ n

@@ -1,11 +1,14 @@
 -- Laws of letters and bytes: `letter` undoes `byte`, and `byte` undoes `letter` on the five letters.
 --
+--   letters-differ    letters with different bytes differ
+--   is-C              a letter is C or not
 --   View b, view b    what a byte is: one of the five codes, or no letter
 use mathlib.Core.Bool.{Bool, false, true}
+use mathlib.Core.Logic.{_≢_}
 use mathlib.Core.Path.{_∙_, _≡_, ap, refl, sym}
 use Prim.Native.Nat.{ℕ}
 use lib.Dec.{eqb}
-use borrow.Author.Tests.{eq-eqb, eqb-true}
+use borrow.Author.Tests.{eq-eqb, eqb-false, eqb-true}
 use Rattle.theory.specs.Letter.{byte, isLetter, letter}
 use Rattle.theory.specs.declared.Letter.{Letter}
 use Rattle.theory.specs.declared.Letter.the-variants.{C, E, L, R, S}
@@ -28,6 +31,16 @@ byte-is-letter a = eq-eqb (byte (letter (byte a))) (byte a) (ap byte (letter-byt
 
 pub byte-injective : (a b : Letter) → byte a ≡ byte b → a ≡ b
 byte-injective a b e = sym (letter-byte a) ∙ ap letter e ∙ letter-byte b
+
+pub letters-differ : (a b : Letter) → eqb (byte a) (byte b) ≡ false → a ≢ b
+letters-differ a b h e = eqb-false (byte a) (byte b) h (ap byte e)
+
+pub is-C : (a : Letter) → Dec (a ≡ C)
+is-C C = yes refl
+is-C L = no (letters-differ L C refl)
+is-C E = no (letters-differ E C refl)
+is-C R = no (letters-differ R C refl)
+is-C S = no (letters-differ S C refl)
 
 pub data View (b : ℕ) : Type 0 where
   is : (a : Letter) → b ≡ byte a → letter b ≡ a → View b

@@ -130,3 +130,14 @@ pub m12 : meshAnswer (2 ∷ 0 ∷ 1 ∷ 0 ∷ 2 ∷ 1 ∷ 5 ∷ 3 ∷ 4 ∷ 3 �
 unfolding meshAnswer firstBroken shapeOk countOk least leastFrom all some iter belowAt pairedAt gluedAt
     apartAt firstCorner meets ringedAt touches facing reached reachedAt mem next previous
 m12 = refl
+
+-- run only: letters that follow the first word
+pub follows-one : stringAnswer (byte E ∷ byte C ∷ []) true ≡ refused 5 1
+unfolding stringAnswer firstBroken countOk least leastFrom greatest greatestOr isLetter letter wordsEnd wanted
+    pinchedAt words before firstWord width
+follows-one = refl
+
+pub follows-three : stringAnswer (byte C ∷ byte C ∷ byte E ∷ byte E ∷ []) true ≡ refused 5 3
+unfolding stringAnswer firstBroken countOk least leastFrom greatest greatestOr isLetter letter wordsEnd wanted
+    pinchedAt words before firstWord width
+follows-three = refl

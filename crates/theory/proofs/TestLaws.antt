@@ -1,12 +1,17 @@
--- Laws of tests: a test is true or false and not both, and what a conjunction or a negation says.
-use mathlib.Core.Bool.{Bool, _&&_, cond, false, not, true}
+-- Laws of tests: a test is true or false and not both, and what a conjunction, a disjunction or a negation says.
+use mathlib.Core.Bool.{Bool, _&&_, _||_, cond, false, not, true}
 use mathlib.Core.Logic.{_⊎_, inl, inr}
 use mathlib.Core.Path.{_∙_, _≡_, ap, refl, sym}
 use Prim.Native.Nat.{ℕ}
 use native.Mathlib.Omega.{arith}
+use lib.Dec.{eqb}
+use borrow.Author.Tests.{eq-eqb}
 
 pub not-both : (b : Bool) → b ≡ true → b ≡ false → ⊥
-not-both b p q = let e : true ≡ false = sym p ∙ q in let z : _≡_ {A = ℕ} 1 0 = ap (λ (x : Bool). cond x 1 0) e in omega arith
+not-both b p q =
+    let e : true ≡ false = sym p ∙ q in
+    let z : _≡_ {A = ℕ} 1 0 = ap (λ (x : Bool). cond x 1 0) e in
+    omega arith
 
 pub true-or-false : (b : Bool) → (b ≡ true) ⊎ (b ≡ false)
 true-or-false true = inl refl
@@ -40,3 +45,24 @@ not-is-false false e = sym e
 pub and-rest : (a b : Bool) → a ≡ true → (a && b) ≡ false → b ≡ false
 and-rest true b p e = e
 and-rest false b p e = absurd (not-both false p refl)
+
+pub or-right : (a b : Bool) → b ≡ true → (a || b) ≡ true
+or-right true b h = refl
+or-right false b h = h
+
+pub or-cases : (a b : Bool) → (a || b) ≡ true → (a ≡ true) ⊎ (b ≡ true)
+or-cases true b h = inl refl
+or-cases false b h = inr h
+
+pub or-no : (a b : Bool) → (a || b) ≡ false → (a ≡ false) × (b ≡ false)
+or-no true b h = absurd (not-both true refl h)
+or-no false b h = (refl, h)
+
+pub or-three : (a b d f : Bool) → (a || (b || f)) ≡ true → (a || (b || (d || f))) ≡ true
+or-three true b d f h = refl
+or-three false true d f h = refl
+or-three false false true f h = refl
+or-three false false false f h = h
+
+pub eqb-same : (x : ℕ) → eqb x x ≡ true
+eqb-same x = eq-eqb x x refl

@@ -3,6 +3,7 @@
 --   Visited k nv pre        the steps pre visited the triangles below k and marked the vertices below nv
 --   visit-new visit-old     it is kept by a step at 3k, with a new tip and with an old one
 --   letter-C letter-sides   the letter at 3k, by the tip's number and by the opposites of the two sides
+--   third-first             the third of three tests, put first
 --   near late               a side that leads back, and one that leads on
 use mathlib.Core.Bool.{Bool, _||_, false, true}
 use mathlib.Core.List.{List, _∷_}
@@ -27,7 +28,7 @@ or-ltb y n = go (ℕ-discrete y n) (decLt y n)
     go (no p) (yes q) = rw (ne-eqb y n p, lt-ltb y n q, lt-ltb y (n + 1) (omega arith))
     go (no p) (no q) = rw (ne-eqb y n p, le-ltb y n (omega arith), le-ltb y (n + 1) (omega arith))
 
-third-first : (x y z u : Bool) → (x || (y || (z || u))) ≡ (z || (x || (y || u)))
+pub third-first : (x y z u : Bool) → (x || (y || (z || u))) ≡ (z || (x || (y || u)))
 third-first true y true u = refl
 third-first true y false u = refl
 third-first false true true u = refl

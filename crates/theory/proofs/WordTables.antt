@@ -15,9 +15,10 @@ use native.Mathlib.Omega.{arith}
 use lib.ListN.{List·getD-eq-default, length, length-replicate, replicate}
 use Rattle.theory.proofs.Chain.{Each, each-append, each-both, each-split}
 use Rattle.theory.proofs.CornerLaws.{by-place, next-high, next-left, next-right, next-tip, previous-high, previous-tip}
-use Rattle.theory.proofs.Counting.{count, tris-in, tris-off, tris-once}
+use Rattle.theory.proofs.Counting.{count, tris-in}
 use Rattle.theory.proofs.HoldsWord.{HoldsWord}
-use Rattle.theory.proofs.JoinLaws.{Join, each-at, ends-root, joined-at, length-joined}
+use Rattle.theory.proofs.JoinLaws.{Join, each-at, ends-root, length-joined}
+use Rattle.theory.proofs.JoinedTables.{ends-low, joined-all}
 use Rattle.theory.proofs.Loops.{Good, Tips, Up, loop-root, rows-good}
 use Rattle.theory.proofs.Opens.{ends}
 use Rattle.theory.proofs.Rows.{Agree, Edges, Rows, agree, rows-ends}
@@ -62,21 +63,14 @@ first-ends w = rows-ends (vertexOf w) 0 2 w (1 ∷ (0 ∷ [])) (rows w)
 module _ (w : Word) (o : Sound w) (q : width w ≡ 2) where
   -- ---- joins
 
-  once : (x : ℕ) → count x (ends (joins w)) ≤ 1
-  once x = let a = ends-root x w o q in let b = tris-once x (size w) 0 in omega arith
-
   low : (x : ℕ) → 1 ≤ count x (ends (joins w)) → x < 3 * size w
-  low x h = go (decLt x (3 * size w))
-    where
-      go : Dec (x < 3 * size w) → x < 3 * size w
-      go (yes p) = p
-      go (no p) = let a = ends-root x w o q in let b = tris-off x (size w) 0 (omega arith) in absurd (omega arith)
+  low x h = ends-low (size w) (joins w) (λ y. ends-root y w o q) x h
 
   pub held : Each (Join (oppositeOf w)) (joins w)
   unfolding tableO
   held =
       let n = length-replicate {A = ℕ} (3 * size w) 0 in
-      joined-at (joins w) (replicate (3 * size w) 0) once (λ x h. rw n (low x h))
+      joined-all (size w) (joins w) (λ x. ends-root x w o q) (replicate (3 * size w) 0) n
 
   pub holds-root : HoldsWord (oppositeOf w) 0 w (0 ∷ [])
   unfolding joins

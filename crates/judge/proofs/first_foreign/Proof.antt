@@ -4,7 +4,7 @@ use Prim.Native.Nat.{_-_, _≤_}
 use native.Mathlib.Omega.{arith}
 use lib.ListN.{getD, length}
 use borrow.Author.Needs.{needs}
-use Rattle.judge.proofs.Forward.{foreign, ours}
+use Rattle.judge.proofs.Forward.{no-letter, ours}
 use Rattle.theory.proofs.LeastLaws.{Before, scan-end, scan-stop, scan-turn}
 use Rattle.theory.specs.Letter.{byte, isLetter}
 use Rattle.judge.proofs.first_foreign.Statement.{statement}
@@ -36,7 +36,7 @@ returns c =
     let byte = c .before .before in
     let l = byte .before .before .before .before in
     let s = l .before .before .args .s .now in
-    let bad = foreign _ _ _ (byte .byte-of .ensures) (byte .before .letter-of .ensures) (c .if1 .taken) in
+    let bad = no-letter _ _ _ (byte .byte-of .ensures) (byte .before .letter-of .ensures) (c .if1 .taken) in
     scan-stop (λ j. isLetter (getD s j 0)) (length s) (l .loop .i) (l .loop .inv .1) (search needs) bad
 
 add-i : tie.Need-add-i Inv-loop μ-loop
@@ -57,7 +57,8 @@ returns-2 : tie.Need-returns-2 Inv-loop μ-loop
 returns-2 c =
     let l = c .before in
     let s = l .before .before .args .s .now in
-    scan-end (λ j. isLetter (getD s j 0)) (length s) (l .loop .i) (l .loop .inv .1) (l .loop .inv .0) (c .loop-test .left)
+    let inv = l .loop .inv in
+    scan-end (λ j. isLetter (getD s j 0)) (length s) (l .loop .i) (inv .1) (inv .0) (c .loop-test .left)
 
 pub first-foreign-spec : {M : Type 1} → statement M
 first-foreign-spec =

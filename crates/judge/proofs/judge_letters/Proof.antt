@@ -2,7 +2,9 @@
 use mathlib.Core.Path.{_∙_}
 use lib.Ieee.{fits}
 use borrow.Author.Needs.{needs}
-use Rattle.judge.proofs.Checks.{breaks-five, breaks-four, breaks-three, none-breaks}
+use Rattle.theory.proofs.JudgeLaws.{breaks-five, breaks-four, breaks-three, none-breaks}
+use Rattle.theory.proofs.Opens.{ends}
+use Rattle.theory.specs.Lists.{all}
 use Rattle.judge.proofs.judge_letters.Statement.{statement}
 use Rattle.judge.proofs.judge_letters.Tie as tie
 
@@ -35,7 +37,9 @@ returns-2 c =
     let ended = c .before .before in
     let found = ended .before .before in
     let s = found .before .before .before .args .s .now in
-    c .refuse2 .ensures ∙ breaks-four s _ (found .first-foreign .ensures) (ended .before .if1 .left) _ (ended .words-end .ensures) (c .before .if2 .taken)
+    let letters = ended .before .if1 .left in
+    let ends = breaks-four s _ (found .first-foreign .ensures) letters _ (ended .words-end .ensures) in
+    c .refuse2 .ensures ∙ ends (c .before .if2 .taken)
 
 cast-refuse-3 : tie.Need-cast-refuse-3
 cast-refuse-3 c = search needs
@@ -48,7 +52,9 @@ returns-3 c =
     let ended = c .before .before .before in
     let found = ended .before .before in
     let s = found .before .before .before .args .s .now in
-    c .refuse3 .ensures ∙ breaks-five s _ (found .first-foreign .ensures) (ended .before .if1 .left) _ (ended .words-end .ensures) (c .before .before .if2 .left) (c .before .if3 .taken)
+    let letters = ended .before .if1 .left in
+    let ends = breaks-five s _ (found .first-foreign .ensures) letters _ (ended .words-end .ensures) in
+    c .refuse3 .ensures ∙ ends (c .before .before .if2 .left) (c .before .if3 .taken)
 
 judge-widths-requires : tie.Need-judge-widths-requires
 judge-widths-requires c κs = search needs
@@ -63,7 +69,9 @@ returns-4 c =
     let ended = fits .before .before in
     let found = ended .before .before in
     let s = found .before .before .before .args .s .now in
-    judged .judge-widths .ensures ∙ none-breaks s _ (found .first-foreign .ensures) (ended .before .if1 .left) _ (ended .words-end .ensures) (fits .before .if2 .left) (fits .if3 .left)
+    let letters = ended .before .if1 .left in
+    let ends = none-breaks s _ (found .first-foreign .ensures) letters _ (ended .words-end .ensures) in
+    judged .judge-widths .ensures ∙ ends (fits .before .if2 .left) (fits .if3 .left)
 
 pub judge-letters-spec : {M : Type 1} → statement M
 judge-letters-spec =

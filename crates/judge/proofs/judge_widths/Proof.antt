@@ -1,5 +1,5 @@
--- `judge_widths` meets its contract: the loop passes the letters from the right (`Passing`); what it stops at, or the width
--- that it ends with, is the answer. The measure is what is left of the string.
+-- `judge_widths` meets its contract: the loop passes the letters from the right (`Passing`); what it stops at, or the
+-- width that it ends with, is the answer. The measure is what is left of the string.
 use mathlib.Core.Path.{_∙_, _≡_, ap, refl, sym}
 use Prim.Native.Nat.{_+_, _/_, ℕ}
 use lib.ListN.{length}
@@ -42,14 +42,15 @@ same-length c = search needs
 returns : tie.Need-returns Inv-loop μ-loop
 returns c =
     let test = c .before .before in
-    let loop = test .before .before .before .before in
-    c .refuse .ensures ∙ stops _ _ _ _ _ (loop .loop .inv .1) (test .before .before .before .loop-test .taken) (sym (test .pinched .ensures) ∙ c .before .if1 .taken)
+    let turn = test .before .before .before in
+    let pinch = sym (test .pinched .ensures) ∙ c .before .if1 .taken in
+    c .refuse .ensures ∙ stops _ _ _ _ _ (turn .before .loop .inv .1) (turn .loop-test .taken) pinch
 
 step-requires : tie.Need-step-requires Inv-loop μ-loop
 step-requires c κs =
-    let loop = c .before .before .before .before .before .before in
-    let s = loop .before .before .before in
-    ready _ _ _ _ _ (loop .loop .inv .1) (c .before .before .before .before .before .loop-test .taken) (s .pre .0) (s .pre .1)
+    let turn = c .before .before .before .before .before in
+    let s = turn .before .before .before .before in
+    ready _ _ _ _ _ (turn .before .loop .inv .1) (turn .loop-test .taken) (s .pre .0) (s .pre .1)
 
 sub-i : tie.Need-sub-i Inv-loop μ-loop
 sub-i c = search needs
@@ -61,9 +62,11 @@ loop-again : tie.Need-loop-again Inv-loop μ-loop
 loop-again c =
     let step = c .before .before in
     let test = step .before .before .before in
-    let loop = test .before .before .before .before in
+    let turn = test .before .before .before in
+    let inv = turn .before .loop .inv in
     let calm = sym (test .pinched .ensures) ∙ step .before .before .if1 .left in
-    (loop .loop .inv .0, turns _ _ _ _ _ (loop .loop .inv .1) (test .before .before .before .loop-test .taken) _ _ (step .step .kept .1 .0) calm (step .step .ensures .0) (step .step .ensures .1))
+    let same = step .step .kept .1 .0 in
+    (inv .0, turns _ _ _ _ _ (inv .1) (turn .loop-test .taken) _ _ same calm (step .step .ensures))
 
 top-requires : tie.Need-top-requires Inv-loop μ-loop
 top-requires c κs = search needs
@@ -76,8 +79,10 @@ same-length-2 c = search needs
 
 returns-2 : tie.Need-returns-2 Inv-loop μ-loop
 returns-2 c =
-    let loop = c .before .before .before .before in
-    c .refuse2 .ensures ∙ ends-wide _ _ _ _ _ (loop .before .loop .inv .1) (loop .loop-test .left) (λ e. c .before .if2 .taken (c .before .before .top .ensures ∙ e))
+    let top = c .before .before in
+    let loop = top .before .before in
+    let ends = ends-wide _ _ _ _ _ (loop .before .loop .inv .1) (loop .loop-test .left) in
+    c .refuse2 .ensures ∙ ends (λ e. c .before .if2 .taken (top .top .ensures ∙ e))
 
 cast-accept : tie.Need-cast-accept Inv-loop μ-loop
 cast-accept c = search needs
@@ -96,9 +101,12 @@ same-length-3 c = search needs
 
 returns-3 : tie.Need-returns-3 Inv-loop μ-loop
 returns-3 c =
-    let loop = c .before .before .before .before in
-    let s = loop .before .before .before .before in
-    c .accept .ensures ∙ ap (λ (t : ℕ). done t (t / 2 + 2)) (loop .before .loop .inv .0) ∙ ends-done _ _ _ _ _ (loop .before .loop .inv .1) (loop .loop-test .left) (sym (c .before .before .top .ensures) ∙ c .before .if2 .left)
+    let top = c .before .before in
+    let loop = top .before .before in
+    let inv = loop .before .loop .inv in
+    let two = sym (top .top .ensures) ∙ c .before .if2 .left in
+    let counts = ap (λ (t : ℕ). done t (t / 2 + 2)) (inv .0) in
+    c .accept .ensures ∙ counts ∙ ends-done _ _ _ _ _ (inv .1) (loop .loop-test .left) two
 
 pub judge-widths-spec : {M : Type 1} → statement M
 judge-widths-spec =

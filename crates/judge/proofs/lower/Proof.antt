@@ -13,7 +13,9 @@ slice-read-work : tie.Need-slice-read-work
 slice-read-work c = search needs
 
 sub-work : tie.Need-sub-work
-sub-work c = omega (arith, top-wide (c .before .before .args .work .now) (c .before .before .args .p) (c .before .if1 .taken) (c .before .before .pre))
+sub-work c =
+    let s = c .before .before in
+    omega (arith, top-wide (s .args .work .now) (s .args .p) (c .before .if1 .taken) (s .pre))
 
 mul-work-2 : tie.Need-mul-work-2
 mul-work-2 c = search needs

@@ -10,7 +10,7 @@ sub-if1 : tie.Need-sub-if1
 sub-if1 c = search needs
 
 returns : tie.Need-returns
-returns c = (search needs, merge-none _ _ (c .if1 .taken) (c .before .pre .within))
+returns c = record { within = search needs; stack = merge-none _ _ (c .if1 .taken) (c .before .pre .within) }
 
 mul-work : tie.Need-mul-work
 mul-work c = search needs
@@ -55,7 +55,7 @@ same-length c = search needs
 returns-2 : tie.Need-returns-2
 returns-2 c =
     let a = c .before .before .before .args in
-    (simp length-set (omega arith), merge-set (a .work .now) (a .p) (omega arith))
+    record { within = simp length-set (omega arith); stack = merge-set (a .work .now) (a .p) (omega arith) }
 
 pub merge-spec : {M : Type 1} → statement M
 merge-spec =

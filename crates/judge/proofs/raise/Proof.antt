@@ -13,7 +13,9 @@ slice-read-work : tie.Need-slice-read-work
 slice-read-work c = search needs
 
 add-work : tie.Need-add-work
-add-work c = omega (arith, top-total (c .before .before .args .work .now) (c .before .before .args .p) (c .before .if1 .taken))
+add-work c =
+    let a = c .before .before .args in
+    omega (arith, top-total (a .work .now) (a .p) (c .before .if1 .taken))
 
 mul-work-2 : tie.Need-mul-work-2
 mul-work-2 c = search needs

@@ -1,7 +1,7 @@
 -- `step` meets its contract: each arm is the store for its letter, and L and R are alike to the widths.
 use mathlib.Core.Path.{_∙_, sym}
 use borrow.Author.Needs.{needs}
-use Rattle.judge.proofs.Stores.{for-letter, pushed, turns-same}
+use Rattle.judge.proofs.Stores.{changed, for-letter, pushed, turns-same}
 use Rattle.judge.proofs.step.Statement.{statement}
 use Rattle.judge.proofs.step.Tie as tie
 
@@ -43,42 +43,53 @@ same-length c = search needs
 
 returns : tie.Need-returns
 returns c =
-    let told = sym (c .before .before .before .before .enum-told .given .1) ∙ c .before .before .before .before .before .before .letter-of .ensures in
-    let s = c .before .before .before .before .before .before .before .before in
-    let grown = pushed _ _ _ _ (s .pre .room) (s .pre .within) (c .before .before .push .ensures .0) (c .before .before .push .ensures .1) in
-    (grown .0, for-letter _ _ told (grown .1))
+    let arm = c .before .before .before .before in
+    let told = sym (arm .enum-told .given .1) ∙ arm .before .before .letter-of .ensures in
+    let s = arm .before .before .before .before in
+    let call = c .before .before in
+    for-letter told (pushed _ _ _ _ (s .pre .room) (s .pre .within) (call .push .ensures .0) (call .push .ensures .1))
 
 same-length-2 : tie.Need-same-length-2
 same-length-2 c = search needs
 
 returns-2 : tie.Need-returns-2
 returns-2 c =
-    let told = sym (c .before .before .before .before .enum-told2 .given .1) ∙ c .before .before .before .before .before .before .letter-of .ensures in
-    (search needs, for-letter _ _ told (c .before .before .lower .ensures))
+    let arm = c .before .before .before .before in
+    let told = sym (arm .enum-told2 .given .1) ∙ arm .before .before .letter-of .ensures in
+    let s = arm .before .before .before .before in
+    let call = c .before .before in
+    for-letter told (changed _ _ _ _ (call .lower .kept .0) (s .pre .within) (call .lower .ensures))
 
 same-length-3 : tie.Need-same-length-3
 same-length-3 c = search needs
 
 returns-3 : tie.Need-returns-3
 returns-3 c =
-    let told = sym (c .before .before .before .before .enum-told3 .given .1) ∙ c .before .before .before .before .before .before .letter-of .ensures in
-    (search needs, for-letter _ _ told (c .before .before .raise .ensures))
+    let arm = c .before .before .before .before in
+    let told = sym (arm .enum-told3 .given .1) ∙ arm .before .before .letter-of .ensures in
+    let s = arm .before .before .before .before in
+    let call = c .before .before in
+    for-letter told (changed _ _ _ _ (call .raise .kept .0) (s .pre .within) (call .raise .ensures))
 
 same-length-4 : tie.Need-same-length-4
 same-length-4 c = search needs
 
 returns-4 : tie.Need-returns-4
 returns-4 c =
-    let told = sym (c .before .before .before .before .enum-told4 .given .1) ∙ c .before .before .before .before .before .before .letter-of .ensures in
-    (search needs, for-letter _ _ told (c .before .before .raise2 .ensures ∙ turns-same _))
+    let arm = c .before .before .before .before in
+    let told = sym (arm .enum-told4 .given .1) ∙ arm .before .before .letter-of .ensures in
+    let s = arm .before .before .before .before in
+    let call = c .before .before in
+    for-letter told (changed _ _ _ _ (call .raise2 .kept .0) (s .pre .within) (call .raise2 .ensures ∙ turns-same _))
 
 same-length-5 : tie.Need-same-length-5
 same-length-5 c = search needs
 
 returns-5 : tie.Need-returns-5
 returns-5 c =
-    let told = sym (c .before .before .before .before .enum-told5 .given .1) ∙ c .before .before .before .before .before .before .letter-of .ensures in
-    (c .before .before .merge .ensures .0, for-letter _ _ told (c .before .before .merge .ensures .1))
+    let arm = c .before .before .before .before in
+    let told = sym (arm .enum-told5 .given .1) ∙ arm .before .before .letter-of .ensures in
+    for-letter told (c .before .before .merge .ensures)
 
 pub step-spec : {M : Type 1} → statement M
 step-spec =

@@ -39,23 +39,38 @@ add-result-4 c = search needs
 
 returns : tie.Need-returns
 unfolding wanted
-returns c = add-one _ ∙ ap (λ (a : Letter). wanted a (c .before .before .before .args .n)) (sym (c .enum-told .given .1) ∙ c .before .before .letter-of .ensures)
+returns c =
+    let n = c .before .before .before .args .n in
+    let told = sym (c .enum-told .given .1) ∙ c .before .before .letter-of .ensures in
+    add-one n ∙ ap (λ (a : Letter). wanted a n) told
 
 returns-2 : tie.Need-returns-2
 unfolding wanted
-returns-2 c = add-one _ ∙ ap (λ (a : Letter). wanted a (c .before .before .before .args .n)) (sym (c .enum-told2 .given .1) ∙ c .before .before .letter-of .ensures)
+returns-2 c =
+    let n = c .before .before .before .args .n in
+    let told = sym (c .enum-told2 .given .1) ∙ c .before .before .letter-of .ensures in
+    add-one n ∙ ap (λ (a : Letter). wanted a n) told
 
 returns-3 : tie.Need-returns-3
 unfolding wanted
-returns-3 c = ap (λ (a : Letter). wanted a (c .before .before .before .args .n)) (sym (c .enum-told3 .given .1) ∙ c .before .before .letter-of .ensures)
+returns-3 c =
+    let n = c .before .before .before .args .n in
+    let told = sym (c .enum-told3 .given .1) ∙ c .before .before .letter-of .ensures in
+    ap (λ (a : Letter). wanted a n) told
 
 returns-4 : tie.Need-returns-4
 unfolding wanted
-returns-4 c = add-one _ ∙ ap (λ (a : Letter). wanted a (c .before .before .before .args .n)) (sym (c .enum-told4 .given .1) ∙ c .before .before .letter-of .ensures)
+returns-4 c =
+    let n = c .before .before .before .args .n in
+    let told = sym (c .enum-told4 .given .1) ∙ c .before .before .letter-of .ensures in
+    add-one n ∙ ap (λ (a : Letter). wanted a n) told
 
 returns-5 : tie.Need-returns-5
 unfolding wanted
-returns-5 c = add-two _ ∙ ap (λ (a : Letter). wanted a (c .before .before .before .args .n)) (sym (c .enum-told5 .given .1) ∙ c .before .before .letter-of .ensures)
+returns-5 c =
+    let n = c .before .before .before .args .n in
+    let told = sym (c .enum-told5 .given .1) ∙ c .before .before .letter-of .ensures in
+    add-two n ∙ ap (λ (a : Letter). wanted a n) told
 
 pub wanted-after-spec : {M : Type 1} → statement M
 wanted-after-spec =

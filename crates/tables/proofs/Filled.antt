@@ -1,0 +1,92 @@
+-- A table of vertices filled from its front: up to corner i the vertices of vt, from there on what stood in vs₀.
+--
+--   mix i          that table
+--   step-mix       one step with the right tip and the right ends fills one more triangle
+--   after-mix ..   a read through a facing corner that is filled already
+--   Ends k         the ends of triangle k are read right
+--   ends-link      so they are where its tip corner is joined to an earlier triangle
+use mathlib.Core.List.{List, _++_, append-nil}
+use mathlib.Core.Path.{_∙_, _≡_, ap, refl, sym}
+use Prim.Native.Nat.{_*_, _+_, _<_, _≤_, suc, ℕ}
+use native.Mathlib.Numerals.{add-one}
+use native.Mathlib.Omega.{arith}
+use lib.Ieee.{round}
+use lib.ListN.{List·getD-append, drop, drop-of-length-le, getD, length, set, take}
+use lib.Seq.{append-snoc, drop-cons, getD-at, getD-take, length-take-le, set-at, take-length, take-suc}
+use borrow.Author.Tests.{ne-eqb}
+use Rattle.tables.specs.Fill.{afterFacing, beforeFacing, fillStep, leftEnd, rightEnd, row, tip}
+use Rattle.theory.proofs.CornerLaws.{next-low, next-tip, previous-low, previous-tip}
+use Rattle.theory.proofs.JoinLaws.{Join}
+use Rattle.theory.proofs.JoinedTables.{join-entry}
+use Rattle.theory.proofs.Rows.{Agree}
+use Rattle.theory.specs.Corner.{next, opposite, previous, vertex}
+use Rattle.theory.specs.declared.Letter.{Letter}
+
+module _ (vt vs₀ ot : List ℕ) (same : length vs₀ ≡ length vt) where
+  unfoldable pub mix : ℕ → List ℕ
+  mix i = take i vt ++ drop i vs₀
+
+  mix-low : (n i : ℕ) → i < n → n ≤ length vt → getD (mix n) i 0 ≡ getD vt i 0
+  unfolding mix
+  mix-low n i h m =
+      List·getD-append (take n vt) (drop n vs₀) 0 i (rw (length-take-le n vt m) h) ∙ getD-take n vt i 0 h
+
+  pub mix-at : (n : ℕ) → n < length vt → getD (mix n) n 0 ≡ getD vs₀ n 0
+  unfolding mix
+  mix-at n h =
+      ap (λ (y : List ℕ). getD (take n vt ++ y) n 0) (drop-cons vs₀ n 0 (omega arith))
+      ∙ getD-at (take n vt) (getD vs₀ n 0) (drop (suc n) vs₀) 0 n (length-take-le n vt (omega arith))
+
+  mix-set : (n : ℕ) → n < length vt → set (mix n) n (getD vt n 0) ≡ mix (n + 1)
+  unfolding mix
+  mix-set n h =
+      ap (λ (y : List ℕ). set (take n vt ++ y) n (getD vt n 0)) (drop-cons vs₀ n 0 (omega arith))
+      ∙ set-at (take n vt) (getD vs₀ n 0) (drop (suc n) vs₀) (getD vt n 0) n (length-take-le n vt (omega arith))
+      ∙ sym (rw (add-one n, take-suc vt n 0 h) (append-snoc (take n vt) (getD vt n 0) (drop (suc n) vs₀)))
+
+  pub mix-none : mix 0 ≡ vs₀
+  unfolding mix
+  mix-none = refl
+
+  pub mix-all : (n : ℕ) → n ≡ length vt → mix n ≡ vt
+  unfolding mix
+  mix-all n q = rw (q, take-length vt, drop-of-length-le vs₀ {i = length vt} (omega arith)) (append-nil vt)
+
+  row-mix : (k : ℕ) → 3 * (k + 1) ≤ length vt
+      → row k (vertex vt (3 * k)) (vertex vt (3 * k + 1)) (vertex vt (3 * k + 2)) (mix (3 * k)) ≡ mix (3 * (k + 1))
+  unfolding row
+  row-mix k h =
+      let a : 3 * k + 1 + 1 ≡ 3 * k + 2 = omega arith in
+      let b : 3 * k + 2 + 1 ≡ 3 * (k + 1) = omega arith in
+      let l = vertex vt (3 * k + 1) in
+      let r = vertex vt (3 * k + 2) in
+      ap (λ (y : List ℕ). set (set y (3 * k + 1) l) (3 * k + 2) r) (mix-set (3 * k) (omega arith))
+      ∙ ap (λ (y : List ℕ). set y (3 * k + 2) r) (mix-set (3 * k + 1) (omega arith) ∙ ap mix a)
+      ∙ mix-set (3 * k + 2) (omega arith) ∙ ap mix b
+
+  abbrev pub Ends : ℕ → Type 0
+  Ends k = (leftEnd k ot (mix (3 * k)) ≡ vertex vt (3 * k + 1)) × (rightEnd k ot (mix (3 * k)) ≡ vertex vt (3 * k + 2))
+
+  pub step-mix : (a : Letter) (k nv : ℕ) → tip a k nv ot (mix (3 * k)) ≡ vertex vt (3 * k) → Ends k
+      → 3 * (k + 1) ≤ length vt → fillStep a k nv ot (mix (3 * k)) ≡ mix (3 * (k + 1))
+  unfolding fillStep
+  step-mix a k nv t i h = rw (t, i .0, i .1) (row-mix k h)
+
+  module _ (k x y : ℕ) (j : Join (opposite ot) x y) (h : y < 3 * k) (m : 3 * k ≤ length vt) where
+    pub after-mix : afterFacing ot (mix (3 * k)) x ≡ vertex vt (next y)
+    unfolding afterFacing
+    after-mix = rw (join-entry ot x y j) (mix-low (3 * k) (next y) (next-low k y h) m)
+
+    pub before-mix : beforeFacing ot (mix (3 * k)) x ≡ vertex vt (previous y)
+    unfolding beforeFacing
+    before-mix = rw (join-entry ot x y j) (mix-low (3 * k) (previous y) (previous-low k y h) m)
+
+  pub ends-link : (a j : ℕ) → a < 3 * j → 3 * j ≤ length vt → Join (opposite ot) a (3 * j)
+      → Agree (vertex vt) a (3 * j) → Ends j
+  unfolding leftEnd rightEnd
+  ends-link a j h m o g =
+      let round : Join (opposite ot) (3 * j) a = (o .1, o .0, λ q. o .2 (sym q)) in
+      rw (ne-eqb j 0 (λ q. omega arith)) (
+        before-mix j (3 * j) a round h m ∙ rw next-tip at (g .1),
+        after-mix j (3 * j) a round h m ∙ rw previous-tip at (g .0),
+      )

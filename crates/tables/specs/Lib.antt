@@ -1,0 +1,4 @@
+pub mod Built
+pub mod Zip
+pub mod Standing
+pub mod Fill
