@@ -63,7 +63,8 @@ module _ (os : List ℕ) (c d : ℕ) (k : c < length os) (ed : d ≡ getD os c 0
     unfolding pairedAt
     pairs-off q = rw (face, lt-ltb d (length os) h, faced, ne-eqb e c q)
 
-module _ (vs os : List ℕ) (c d a b : ℕ) (ed : d ≡ opposite os c) (ea : a ≡ vertex vs (next c)) (eb : b ≡ vertex vs (previous d)) where
+module _ (vs os : List ℕ) (c d a b : ℕ) (ed : d ≡ opposite os c) (ea : a ≡ vertex vs (next c))
+    (eb : b ≡ vertex vs (previous d)) where
   first-ends : vertex vs (previous (opposite os c)) ≡ b
   first-ends = ap (λ (x : ℕ). vertex vs (previous x)) (sym ed) ∙ sym eb
 
@@ -83,11 +84,14 @@ module _ (vs : List ℕ) (k : ℕ) where
   module _ (n : vertex vs (3 * k) ≢ vertex vs (3 * k + 1)) where
     pub twice-second : vertex vs (3 * k + 1) ≡ vertex vs (3 * k + 2) → false ≡ apartAt vs k
     unfolding apartAt
-    twice-second e = rw (ne-eqb (vertex vs (3 * k)) (vertex vs (3 * k + 1)) n, eq-eqb (vertex vs (3 * k + 1)) (vertex vs (3 * k + 2)) e)
+    twice-second e =
+        rw (ne-eqb (vertex vs (3 * k)) (vertex vs (3 * k + 1)) n, eq-eqb (vertex vs (3 * k + 1)) (vertex vs (3 * k + 2)) e)
 
-    pub twice-third : vertex vs (3 * k + 1) ≢ vertex vs (3 * k + 2) → not (eqb (vertex vs (3 * k + 2)) (vertex vs (3 * k))) ≡ apartAt vs k
+    pub twice-third : vertex vs (3 * k + 1) ≢ vertex vs (3 * k + 2)
+        → not (eqb (vertex vs (3 * k + 2)) (vertex vs (3 * k))) ≡ apartAt vs k
     unfolding apartAt
-    twice-third m = rw (ne-eqb (vertex vs (3 * k)) (vertex vs (3 * k + 1)) n, ne-eqb (vertex vs (3 * k + 1)) (vertex vs (3 * k + 2)) m)
+    twice-third m =
+        rw (ne-eqb (vertex vs (3 * k)) (vertex vs (3 * k + 1)) n, ne-eqb (vertex vs (3 * k + 1)) (vertex vs (3 * k + 2)) m)
 
 pub mark-off : (l : List ℕ) (k : ℕ) → getD l k 0 ≡ 0 → marked l k ≡ false
 mark-off l k e = rw (eq-eqb (getD l k 0) 0 e)

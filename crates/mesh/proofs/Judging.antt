@@ -97,10 +97,13 @@ module _ (vs os : List ℕ) (v g : ℕ) where
                 left12 = left11 ∙ passes 11 (gluedAt vs os) (length vs) from12 good d ed hd
 
                 pub doubled-stops : k < length vs / 3 → (r : Answer) → r ≡ refused 12 k → Judged r
-                doubled-stops h r q = stops 12 (apartAt vs) (length vs / 3) (laterRungs vs os v g) good k ek h r q ∙ sym left12
+                doubled-stops h r q =
+                    stops 12 (apartAt vs) (length vs / 3) (laterRungs vs os v g) good k ek h r q ∙ sym left12
 
-                pub later-left : length vs / 3 ≤ k → (r : Answer) → r ≡ firstBroken (laterRungs vs os v g) good → Judged r
-                later-left h r q = q ∙ sym (left12 ∙ passes 12 (apartAt vs) (length vs / 3) (laterRungs vs os v g) good k ek h)
+                pub later-left : length vs / 3 ≤ k → (r : Answer) → r ≡ firstBroken (laterRungs vs os v g) good
+                    → Judged r
+                later-left h r q =
+                    q ∙ sym (left12 ∙ passes 12 (apartAt vs) (length vs / 3) (laterRungs vs os v g) good k ek h)
 
 module _ (vs os : List ℕ) (v g : ℕ) where
   abbrev from15 : List Rung
@@ -116,7 +119,8 @@ module _ (vs os : List ℕ) (v g : ℕ) where
     pub ring-stops : u < v → (r : Answer) → r ≡ refused 13 u → Later r
     ring-stops h r q = stops 13 (ringedAt vs os) v from14 (good vs os v g) u eu h r q
 
-    module _ (hu : v ≤ u) (same : length vs ≡ length os) (x : ℕ) (ex : x ≡ g) (k : ℕ) (ek₀ : k ≡ least (reachedAt os (length os / 3) x) (length os / 3)) where
+    module _ (hu : v ≤ u) (same : length vs ≡ length os) (x : ℕ) (ex : x ≡ g) (k : ℕ)
+        (ek₀ : k ≡ least (reachedAt os (length os / 3) x) (length os / 3)) where
       ek : k ≡ least (reachedAt os (length vs / 3) g) (length vs / 3)
       ek = rw (same, ← ex) ek₀
 
@@ -124,7 +128,8 @@ module _ (vs os : List ℕ) (v g : ℕ) where
       left14 = passes 13 (ringedAt vs os) v from14 (good vs os v g) u eu hu
 
       pub unreached-stops : k < length vs / 3 → (r : Answer) → r ≡ refused 14 k → Later r
-      unreached-stops h r q = stops 14 (reachedAt os (length vs / 3) g) (length vs / 3) from15 (good vs os v g) k ek h r q ∙ sym left14
+      unreached-stops h r q =
+          stops 14 (reachedAt os (length vs / 3) g) (length vs / 3) from15 (good vs os v g) k ek h r q ∙ sym left14
 
       module _ (hk : length vs / 3 ≤ k) (m : ℕ) (em : m ≡ v) where
         left15 : firstBroken (laterRungs vs os v g) (good vs os v g) ≡ firstBroken from15 (good vs os v g)

@@ -45,7 +45,8 @@ module _ (t p x : ℕ) (work : List ℕ) (h : x < t) (room : t < p) (within : p 
 pub neighbour : (t : ℕ) (os : List ℕ) (k k′ x j : ℕ) → Closed t os → k ≡ k′ → k′ < t → j < 3 → x ≡ across os k j → x < t
 neighbour t os k k′ x j tab e h l ex = rw (ex, e) (in-table t os k′ j tab h l)
 
-pub spread-same : (os : List ℕ) (k k′ x y z : ℕ) (s₀ s₁ s₂ s₃ : Search) → k ≡ k′ → x ≡ across os k 0 → y ≡ across os k 1 → z ≡ across os k 2
+pub spread-same : (os : List ℕ) (k k′ x y z : ℕ) (s₀ s₁ s₂ s₃ : Search) → k ≡ k′ → x ≡ across os k 0 → y ≡ across os k 1
+    → z ≡ across os k 2
     → s₁ ≡ touch x s₀ → s₂ ≡ touch y s₁ → s₃ ≡ touch z s₂ → s₃ ≡ spread os k′ s₀
 spread-same os k k′ x y z s₀ s₁ s₂ s₃ e ex ey ez e₁ e₂ e₃ = rw (e₃, e₂, e₁, ex, ey, ez, e)
 
@@ -56,7 +57,8 @@ pub record Searching (t : ℕ) (os : List ℕ) (a : ℕ) (work₀ work : List �
   pub within : p ≤ length work
   pub good : Good t os a (searchIn t work p)
 
-module _ (t : ℕ) (os : List ℕ) (a : ℕ) (work₀ work : List ℕ) (p : ℕ) (tab : Closed t os) (big : t + t + 3 ≤ length work₀) (v : Searching t os a work₀ work p) where
+module _ (t : ℕ) (os : List ℕ) (a : ℕ) (work₀ work : List ℕ) (p : ℕ) (tab : Closed t os)
+    (big : t + t + 3 ≤ length work₀) (v : Searching t os a work₀ work p) where
   pub low : t + 3 ≤ p
   low = omega (arith, v .same, v .within, v .good .room, length-drop p work)
 
@@ -70,12 +72,14 @@ module _ (t : ℕ) (os : List ℕ) (a : ℕ) (work₀ work : List ℕ) (p : ℕ)
     pub waiting : getD work p 0 < t
     waiting = top-in t os a tab (take t work) (drop (p + 1) work) (getD work p 0) at-top
 
-    pub again : (work′ : List ℕ) (r : ℕ) → length work′ ≡ length work → r ≤ length work′ → searchIn t work′ r ≡ spread os (getD work p 0) (searchIn t work (p + 1))
+    pub again : (work′ : List ℕ) (r : ℕ) → length work′ ≡ length work → r ≤ length work′
+        → searchIn t work′ r ≡ spread os (getD work p 0) (searchIn t work (p + 1))
         → Searching t os a work₀ work′ r
     again work′ r same within e =
         record { same = same ∙ v .same; within = within; good = subst (Good t os a) (sym e) (turned t os a tab (take t work) (drop (p + 1) work) (getD work p 0) at-top) }
 
-    pub fewer : (work′ : List ℕ) (r : ℕ) → searchIn t work′ r ≡ spread os (getD work p 0) (searchIn t work (p + 1)) → owed (searchIn t work′ r) < owed (searchIn t work p)
+    pub fewer : (work′ : List ℕ) (r : ℕ) → searchIn t work′ r ≡ spread os (getD work p 0) (searchIn t work (p + 1))
+        → owed (searchIn t work′ r) < owed (searchIn t work p)
     fewer work′ r e =
         subst (λ (y : Search). owed y < owed (searchIn t work p)) (sym e)
         (subst (λ (l : List ℕ). owed (spread os (getD work p 0) (searchIn t work (p + 1))) < owed (record { seen = take t work; stack = l })) (sym top-first)
@@ -84,7 +88,8 @@ module _ (t : ℕ) (os : List ℕ) (a : ℕ) (work₀ work : List ℕ) (p : ℕ)
   pub finished : length work ≤ p → Exact os a (take t work)
   finished h = ended t os a (take t work) (drop p work) (drop-of-length-le work h) (v .good)
 
-pub begun : (t : ℕ) (os : List ℕ) (a : ℕ) (work work′ : List ℕ) (p r : ℕ) → a < t → take t work ≡ replicate t 0 → p ≡ length work → r ≤ p → length work′ ≡ length work
+pub begun : (t : ℕ) (os : List ℕ) (a : ℕ) (work work′ : List ℕ) (p r : ℕ) → a < t → take t work ≡ replicate t 0
+    → p ≡ length work → r ≤ p → length work′ ≡ length work
     → searchIn t work′ r ≡ touch a (searchIn t work p) → Searching t os a work′ work′ r
 begun t os a work work′ p r h z ep l same e =
     let d : drop p work ≡ [] = drop-of-length-le work {i = p} (omega arith) in
@@ -102,7 +107,8 @@ agrees t os g work r pair size h exact e = e ∙ least-same (marked work) (reach
       where
         whole : marked work k ≡ true → mem k (reached os t t (triangle g)) ≡ true
         whole m =
-            reached-whole os t (triangle g) (pair .paired) (λ c q. omega (arith, pair .inside c (omega arith))) size (omega arith)
+            reached-whole os t (triangle g) (pair .paired) (λ c q. omega (arith, pair .inside c (omega arith))) size
+            (omega arith)
             (exact .sound k (λ z. eqb-false (getD work k 0) 0 (not-is-true (eqb (getD work k 0) 0) m) (sym (getD-take t work k 0 l) ∙ z)))
 
         sound : mem k (reached os t t (triangle g)) ≡ true → marked work k ≡ true

@@ -22,7 +22,9 @@ use Rattle.theory.specs.Walk.{seen}
 
 -- over corner j of a triangle that is reached
 reach-over : (os : List ℕ) (a k j : ℕ) → j < 3 → Reach (opposite os) a k → Reach (opposite os) a (across os k j)
-reach-over os a k j h r = let q : k ≡ triangle (3 * k + j) = omega arith in over (3 * k + j) (subst (Reach (opposite os) a) q r)
+reach-over os a k j h r =
+    let q : k ≡ triangle (3 * k + j) = omega arith in
+    over (3 * k + j) (subst (Reach (opposite os) a) q r)
 
 -- while triangle k is worked on and its first m neighbours are met
 
@@ -44,7 +46,8 @@ pub record Good (t : ℕ) (os : List ℕ) (a : ℕ) (s : Search) : Type 0 where
   pub shut : (i : ℕ) → Seen s i → In i (s .stack) ⊎ ((j : ℕ) → j < 3 → Seen s (across os i j))
   pub room : unseen s + length (s .stack) ≤ t
 
-pub meet-open : (t : ℕ) (os : List ℕ) (a k m : ℕ) (s : Search) → m < 3 → across os k m < t → Open t os a k m s → Open t os a k (suc m) (touch (across os k m) s)
+pub meet-open : (t : ℕ) (os : List ℕ) (a k m : ℕ) (s : Search) → m < 3 → across os k m < t → Open t os a k m s
+    → Open t os a k (suc m) (touch (across os k m) s)
 meet-open t os a k m s h3 hx v = by-touch (Open t os a k (suc m)) (across os k m) s new old
   where
     x : ℕ
@@ -74,11 +77,13 @@ meet-open t os a k m s h3 hx v = by-touch (Open t os a k (suc m)) (across os k m
         small i (inl q) = subst (λ (y : ℕ). (y < t) × Seen (fresh x s) y) (sym q) (hx, fresh-seen x s h)
         small i (inr q) = (v .small i q .0, fresh-keeps x s h i (v .small i q .1))
 
-        wider : (i : ℕ) → In i (s .stack) ⊎ ((j : ℕ) → j < 3 → Seen s (across os i j)) → In i (x ∷ s .stack) ⊎ ((j : ℕ) → j < 3 → Seen (fresh x s) (across os i j))
+        wider : (i : ℕ) → In i (s .stack) ⊎ ((j : ℕ) → j < 3 → Seen s (across os i j))
+            → In i (x ∷ s .stack) ⊎ ((j : ℕ) → j < 3 → Seen (fresh x s) (across os i j))
         wider i (inl q) = inl (inr q)
         wider i (inr q) = inr (λ j l. fresh-keeps x s h (across os i j) (q j l))
 
-        shut : (i : ℕ) → (i ≡ k → ⊥) → Seen s i ⊎ (i ≡ x) → In i (x ∷ s .stack) ⊎ ((j : ℕ) → j < 3 → Seen (fresh x s) (across os i j))
+        shut : (i : ℕ) → (i ≡ k → ⊥) → Seen s i ⊎ (i ≡ x)
+            → In i (x ∷ s .stack) ⊎ ((j : ℕ) → j < 3 → Seen (fresh x s) (across os i j))
         shut i n (inl p) = wider i (v .shut i p n)
         shut i n (inr q) = inl (inl q)
 
@@ -104,14 +109,16 @@ meet-open t os a k m s h3 hx v = by-touch (Open t os a k (suc m)) (across os k m
         met j (no e) l = v .met j (omega arith)
 
 -- meeting x spends at least what it adds
-pub meet-left : (x : ℕ) (s : Search) → x < length (s .seen) → (owed (touch x s) ≤ owed s) × (unseen (touch x s) + length (touch x s .stack) ≤ unseen s + length (s .stack))
+pub meet-left : (x : ℕ) (s : Search) → x < length (s .seen)
+    → (owed (touch x s) ≤ owed s) × (unseen (touch x s) + length (touch x s .stack) ≤ unseen s + length (s .stack))
 meet-left x s h =
     by-touch (λ (r : Search). (owed r ≤ owed s) × (unseen r + length (r .stack) ≤ unseen s + length (s .stack))) x s
     (λ e. (omega (arith, count-set (s .seen) x h e), omega (arith, count-set (s .seen) x h e)))
     (λ p. (omega arith, omega arith))
 
 meet-size : (x : ℕ) (s : Search) → length (touch x s .seen) ≡ length (s .seen)
-meet-size x s = by-touch (λ (r : Search). length (r .seen) ≡ length (s .seen)) x s (λ e. length-set (s .seen) x 1) (λ p. refl)
+meet-size x s =
+    by-touch (λ (r : Search). length (r .seen) ≡ length (s .seen)) x s (λ e. length-set (s .seen) x 1) (λ p. refl)
 
 pub in-table : (t : ℕ) (os : List ℕ) (k j : ℕ) → Closed t os → k < t → j < 3 → across os k j < t
 in-table t os k j tab h l = omega (arith, tab .corners, tab .inside (3 * k + j) (omega (arith, tab .corners)))
@@ -145,14 +152,17 @@ module _ (t : ℕ) (os : List ℕ) (a : ℕ) (tab : Closed t os) (seen st : List
 
   met-all : Open t os a k 3 (spread os k under)
   met-all =
-      meet-open t os a k 2 (touch (across os k 1) (touch (across os k 0) under)) (omega arith) (in-table t os k 2 tab top-in (omega arith))
+      meet-open t os a k 2 (touch (across os k 1) (touch (across os k 0) under)) (omega arith)
+      (in-table t os k 2 tab top-in (omega arith))
       (meet-open t os a k 1 (touch (across os k 0) under) (omega arith) (in-table t os k 1 tab top-in (omega arith))
       (meet-open t os a k 0 under (omega arith) (in-table t os k 0 tab top-in (omega arith)) opened))
 
-  spent : (owed (spread os k under) ≤ owed under) × (unseen (spread os k under) + length (spread os k under .stack) ≤ unseen under + length st)
+  spent : (owed (spread os k under) ≤ owed under)
+      × (unseen (spread os k under) + length (spread os k under .stack) ≤ unseen under + length st)
   spent =
       let r0 = meet-left (across os k 0) under (omega (arith, v .size, in-table t os k 0 tab top-in (omega arith))) in
-      let r1 = meet-left (across os k 1) (touch (across os k 0) under) (omega (arith, v .size, meet-size (across os k 0) under, in-table t os k 1 tab top-in (omega arith))) in
+      let r1 = meet-left (across os k 1) (touch (across os k 0) under)
+      (omega (arith, v .size, meet-size (across os k 0) under, in-table t os k 1 tab top-in (omega arith))) in
       let r2 = meet-left (across os k 2) (touch (across os k 1) (touch (across os k 0) under))
       (omega (arith, v .size, meet-size (across os k 0) under, meet-size (across os k 1) (touch (across os k 0) under), in-table t os k 2 tab top-in (omega arith))) in
       (omega (arith, r0 .0, r1 .0, r2 .0), omega (arith, r0 .1, r1 .1, r2 .1))
@@ -169,8 +179,10 @@ module _ (t : ℕ) (os : List ℕ) (a : ℕ) (tab : Closed t os) (seen st : List
         room = omega (arith, v .room, spent .1);
       }
     where
-      shut : (i : ℕ) → Seen (spread os k under) i → Dec (i ≡ k) → In i (spread os k under .stack) ⊎ ((j : ℕ) → j < 3 → Seen (spread os k under) (across os i j))
-      shut i p (yes e) = inr (λ j l. subst (λ (y : ℕ). Seen (spread os k under) (across os y j)) (sym e) (met-all .met j l))
+      shut : (i : ℕ) → Seen (spread os k under) i → Dec (i ≡ k)
+          → In i (spread os k under .stack) ⊎ ((j : ℕ) → j < 3 → Seen (spread os k under) (across os i j))
+      shut i p (yes e) =
+          inr (λ j l. subst (λ (y : ℕ). Seen (spread os k under) (across os y j)) (sym e) (met-all .met j l))
       shut i p (no n) = met-all .shut i p n
 
   pub falls : owed (spread os k under) < owed (record { seen = seen; stack = k ∷ st })
@@ -242,4 +254,5 @@ ended t os a seen st e v = record { sound = v .sound; whole = whole }
         closed here = v .start
         closed (over c r) =
             let q : 3 * triangle c + c % 3 ≡ c = omega arith in
-            subst (λ (d : ℕ). getD seen (triangle (opposite os d)) 0 ≢ 0) q (shut (triangle c) (closed r) (c % 3) (omega arith))
+            subst (λ (d : ℕ). getD seen (triangle (opposite os d)) 0 ≢ 0) q
+            (shut (triangle c) (closed r) (c % 3) (omega arith))

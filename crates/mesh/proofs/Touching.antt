@@ -36,7 +36,8 @@ unfolding touch
 touch-old x s e = rw (ne-eqb (getD (s .seen) x 0) 0 e)
 
 -- a law of the machine that holds whether or not x was seen
-pub by-touch : (P : Search → Type 0) (x : ℕ) (s : Search) → (getD (s .seen) x 0 ≡ 0 → P (fresh x s)) → (Seen s x → P s) → P (touch x s)
+pub by-touch : (P : Search → Type 0) (x : ℕ) (s : Search) → (getD (s .seen) x 0 ≡ 0 → P (fresh x s)) → (Seen s x → P s)
+    → P (touch x s)
 by-touch P x s new old = go (ℕ-discrete (getD (s .seen) x 0) 0)
   where
     go : Dec (getD (s .seen) x 0 ≡ 0) → P (touch x s)

@@ -25,7 +25,8 @@ use Rattle.theory.specs.Word.{before}
 use denote.Struct.Rest.{rest}
 use types.Kit.{later}
 
-pub tallied-in : (vs work : List ℕ) (c u : ℕ) → u ≡ vertex vs c → u < length vs → set (set work u (getD work u 0 + 1)) (length vs + u) c ≡ tallied vs c work
+pub tallied-in : (vs work : List ℕ) (c u : ℕ) → u ≡ vertex vs c → u < length vs
+    → set (set work u (getD work u 0 + 1)) (length vs + u) c ≡ tallied vs c work
 unfolding tallied
 tallied-in vs work c u e h = rw (← e, lt-ltb u (length vs) h)
 
@@ -42,7 +43,8 @@ tally-start vs work z =
     zero-count u = rw (drop-length vs) refl
 
 -- a count stays below the number of corners while one is left
-pub tally-room : (vs work : List ℕ) (c u : ℕ) → c < length vs → Tallied vs (suc c) work → u < length vs → getD work u 0 < length vs
+pub tally-room : (vs work : List ℕ) (c u : ℕ) → c < length vs → Tallied vs (suc c) work → u < length vs
+    → getD work u 0 < length vs
 tally-room vs work c u h t l = omega (arith, t .counts u l, count-short u (drop (suc c) vs), length-drop (suc c) vs)
 
 -- a later corner that is the first from c + 1 on is the first from c on, if c is of another vertex
@@ -57,7 +59,8 @@ first-back vs c u d n f =
 first-here : (vs : List ℕ) (c : ℕ) → c < length vs → First vs c (vertex vs c) c
 first-here vs c h = record { later = omega arith; low = h; is = refl; before = λ e a b. absurd (omega arith) }
 
-module _ (vs work : List ℕ) (c : ℕ) (h : c < length vs) (room : length vs + length vs ≤ length work) (t : Tallied vs (suc c) work) where
+module _ (vs work : List ℕ) (c : ℕ) (h : c < length vs) (room : length vs + length vs ≤ length work)
+    (t : Tallied vs (suc c) work) where
   abbrev y : ℕ
   y = vertex vs c
 
@@ -83,14 +86,19 @@ module _ (vs work : List ℕ) (c : ℕ) (h : c < length vs) (room : length vs + 
       ∙ getD-set-other work y u (getD work y 0 + 1) 0 e
       ∙ omega (arith, more u, bit-off u y e, t .counts u k)
 
-  firsts-in : y < length vs → (u : ℕ) → u < length vs → 1 ≤ count u (drop c vs) → Dec (u ≡ y) → First vs c u (getD full (length vs + u) 0)
+  firsts-in : y < length vs → (u : ℕ) → u < length vs → 1 ≤ count u (drop c vs) → Dec (u ≡ y)
+      → First vs c u (getD full (length vs + u) 0)
   firsts-in l u k p (yes e) =
-      let q : getD full (length vs + y) 0 ≡ c = getD-set-same half (length vs + y) c 0 (omega (arith, length-set work y (getD work y 0 + 1))) in
-      subst (λ (x : ℕ). First vs c x (getD full (length vs + x) 0)) (sym e) (subst (First vs c y) (sym q) (first-here vs c h))
+      let q : getD full (length vs + y) 0 ≡ c = getD-set-same half (length vs + y) c 0
+      (omega (arith, length-set work y (getD work y 0 + 1))) in
+      subst (λ (x : ℕ). First vs c x (getD full (length vs + x) 0)) (sym e)
+      (subst (First vs c y) (sym q) (first-here vs c h))
   firsts-in l u k p (no e) =
       let q : getD full (length vs + u) 0 ≡ getD work (length vs + u) 0
-      = getD-set-other half (length vs + y) (length vs + u) c 0 (λ q. e (omega arith)) ∙ getD-set-other work y (length vs + u) (getD work y 0 + 1) 0 (λ q. omega arith) in
-      subst (First vs c u) (sym q) (first-back vs c u (getD work (length vs + u) 0) e (t .firsts u k (omega (arith, more u, bit-off u y e))))
+      = getD-set-other half (length vs + y) (length vs + u) c 0 (λ q. e (omega arith))
+      ∙ getD-set-other work y (length vs + u) (getD work y 0 + 1) 0 (λ q. omega arith) in
+      subst (First vs c u) (sym q)
+      (first-back vs c u (getD work (length vs + u) 0) e (t .firsts u k (omega (arith, more u, bit-off u y e))))
 
   pub tally-turn : Tallied vs c (tallied vs c work)
   unfolding tallied
@@ -103,19 +111,23 @@ module _ (vs work : List ℕ) (c : ℕ) (h : c < length vs) (room : length vs + 
           rw (le-ltb y (length vs) (omega arith)) (record {
             counts = λ u k. t .counts u k ∙ omega (arith, more u, bit-off u y (λ q. omega arith));
             firsts = λ u k p.
-                first-back vs c u (getD work (length vs + u) 0) (λ q. omega arith) (t .firsts u k (omega (arith, more u, bit-off u y (λ q. omega arith))));
+                first-back vs c u (getD work (length vs + u) 0) (λ q. omega arith)
+                (t .firsts u k (omega (arith, more u, bit-off u y (λ q. omega arith))));
           })
 
 -- the same, as the loop goes down
-pub tally-fits : (vs work : List ℕ) (c u : ℕ) → 0 < c → c ≤ length vs → Tallied vs c work → u < length vs → getD work u 0 < length vs
+pub tally-fits : (vs work : List ℕ) (c u : ℕ) → 0 < c → c ≤ length vs → Tallied vs c work → u < length vs
+    → getD work u 0 < length vs
 tally-fits vs work zero u p h t l = absurd (omega arith)
 tally-fits vs work (suc c) u p h t l = tally-room vs work c u h t l
 
-pub tally-next : (vs work : List ℕ) (c : ℕ) → 0 < c → c ≤ length vs → length vs + length vs ≤ length work → Tallied vs c work → Tallied vs (c - 1) (tallied vs (c - 1) work)
+pub tally-next : (vs work : List ℕ) (c : ℕ) → 0 < c → c ≤ length vs → length vs + length vs ≤ length work
+    → Tallied vs c work → Tallied vs (c - 1) (tallied vs (c - 1) work)
 tally-next vs work zero p h room t = absurd (omega arith)
 tally-next vs work (suc c) p h room t = let q : suc c - 1 ≡ c = omega arith in rw q (tally-turn vs work c h room t)
 
-pub tally-again : (vs work work′ : List ℕ) (c : ℕ) → 0 < c → c ≤ length vs → length vs + length vs ≤ length work → Tallied vs c work → work′ ≡ tallied vs (c - 1) work → Tallied vs (c - 1) work′
+pub tally-again : (vs work work′ : List ℕ) (c : ℕ) → 0 < c → c ≤ length vs → length vs + length vs ≤ length work
+    → Tallied vs c work → work′ ≡ tallied vs (c - 1) work → Tallied vs (c - 1) work′
 tally-again vs work work′ c p h room t e = subst (Tallied vs (c - 1)) (sym e) (tally-next vs work c p h room t)
 
 pub tally-end : (vs work : List ℕ) (c : ℕ) → c ≤ 0 → Tallied vs c work → Tallied vs 0 work
@@ -126,4 +138,6 @@ first-of vs u d f = first-at vs u d (f .low) (f .is) (λ e h. f .before e (omega
 
 -- a table whose front is cleared
 pub zeros-front : (n : ℕ) (work rest : List ℕ) → work ≡ replicate n 0 ++ rest → Zeros n work
-zeros-front n work rest e u h = ap (λ (l : List ℕ). getD l u 0) e ∙ List·getD-append (replicate n 0) rest 0 u (rw (length-replicate {A = ℕ} n 0) h) ∙ getD-replicate n u 0 0 h
+zeros-front n work rest e u h =
+    ap (λ (l : List ℕ). getD l u 0) e ∙ List·getD-append (replicate n 0) rest 0 u (rw (length-replicate {A = ℕ} n 0) h)
+    ∙ getD-replicate n u 0 0 h

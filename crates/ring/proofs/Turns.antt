@@ -43,19 +43,23 @@ module _ (os : List ℕ) (c : ℕ) where
     pub swing-turn : Pairing os → d ≢ c → (e : ℕ) → e ≡ swing (opposite os) d → Swinging os c e (i + 1)
     swing-turn k n e q =
         record {
-          met = q ∙ ap (swing (opposite os)) (s .met) ∙ sym (swings-more os i c) ∙ ap (λ (u : ℕ). swings os u c) (sym (add-one i));
+          met =
+              q ∙ ap (swing (opposite os)) (s .met) ∙ sym (swings-more os i c)
+              ∙ ap (λ (u : ℕ). swings os u c) (sym (add-one i));
           inside = rw q (swing-in os k d (s .inside));
           some = omega arith;
           apart = λ j l. apart j l (ℕ-discrete (suc j) i);
         }
       where
         apart : (j : ℕ) → suc j < i + 1 → Dec (suc j ≡ i) → not (eqb (swings os (suc j) c) c) ≡ true
-        apart j l (yes e) = ap not (ne-eqb (swings os (suc j) c) c (λ z. n (s .met ∙ ap (λ (u : ℕ). swings os u c) (sym e) ∙ z)))
+        apart j l (yes e) =
+            ap not (ne-eqb (swings os (suc j) c) c (λ z. n (s .met ∙ ap (λ (u : ℕ). swings os u c) (sym e) ∙ z)))
         apart j l (no e) = s .apart j (omega arith)
 
     pub swing-stop : (k : ℕ) → i < k → d ≡ c → false ≡ awayFor os c k
     unfolding awayFor
-    swing-stop k h e = sym (all-off (λ j. not (eqb (swings os (suc j) c) c)) (k - 1) (i - 1) (omega (arith, s .some)) (ap not (eq-eqb (swings os (suc (i - 1)) c) c back)))
+    swing-stop k h e =
+        sym (all-off (λ j. not (eqb (swings os (suc j) c) c)) (k - 1) (i - 1) (omega (arith, s .some)) (ap not (eq-eqb (swings os (suc (i - 1)) c) c back)))
       where
         back : swings os (suc (i - 1)) c ≡ c
         back = let q : suc (i - 1) ≡ i = omega (arith, s .some) in ap (λ (u : ℕ). swings os u c) q ∙ sym (s .met) ∙ e
@@ -79,16 +83,20 @@ module _ (vs os work : List ℕ) (u : ℕ) (s : Surface vs os) (t : Tallied vs 0
   pub ring-start : (getD work u 0 ≡ 0 → ⊥) → getD work (length vs + u) 0 < length os
   ring-start n = let f = first-in vs u (omega (arith, count-at)) in omega (arith, first-found n, f .0, s .same)
 
-  pub ring-same : (getD work u 0 ≡ 0 → ⊥) → (r : Bool) → r ≡ awayFor os (getD work (length vs + u) 0) (getD work u 0) → r ≡ ringedAt vs os u
+  pub ring-same : (getD work u 0 ≡ 0 → ⊥) → (r : Bool) → r ≡ awayFor os (getD work (length vs + u) 0) (getD work u 0)
+      → r ≡ ringedAt vs os u
   ring-same n r e =
-      e ∙ ap (λ (c : ℕ). awayFor os c (getD work u 0)) (first-found n) ∙ ap (awayFor os (firstCorner vs u)) count-at ∙ ring-count s u (omega (arith, count-at))
+      e ∙ ap (λ (c : ℕ). awayFor os c (getD work u 0)) (first-found n) ∙ ap (awayFor os (firstCorner vs u)) count-at
+      ∙ ring-count s u (omega (arith, count-at))
 
 -- ---- all vertices
 
 -- more vertices than corners are not all present
-pub rings-full : (vs os : List ℕ) (v u : ℕ) → Before (ringedAt vs os) u → u < v → length vs ≤ u → u ≡ least (ringedAt vs os) v
+pub rings-full : (vs os : List ℕ) (v u : ℕ) → Before (ringedAt vs os) u → u < v → length vs ≤ u
+    → u ≡ least (ringedAt vs os) v
 rings-full vs os v u b h l = scan-stop (ringedAt vs os) v u b h (go (true-or-false (ringedAt vs os u)))
   where
     go : (ringedAt vs os u ≡ true) ⊎ (ringedAt vs os u ≡ false) → ringedAt vs os u ≡ false
-    go (inl q) = absurd (omega (arith, present-few (suc u) vs (λ y k. ringed-present vs os y (scan-turn (ringedAt vs os) v u b q y (omega arith)))))
+    go (inl q) =
+        absurd (omega (arith, present-few (suc u) vs (λ y k. ringed-present vs os y (scan-turn (ringedAt vs os) v u b q y (omega arith)))))
     go (inr q) = q

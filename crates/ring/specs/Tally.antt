@@ -17,7 +17,8 @@ use Rattle.theory.specs.Corner.{vertex}
 
 unfoldable pub tallied : List ℕ → ℕ → List ℕ → List ℕ
 tallied vs c work =
-    cond (ltb (vertex vs c) (length vs)) (set (set work (vertex vs c) (getD work (vertex vs c) 0 + 1)) (length vs + vertex vs c) c) work
+    cond (ltb (vertex vs c) (length vs))
+    (set (set work (vertex vs c) (getD work (vertex vs c) 0 + 1)) (length vs + vertex vs c) c) work
 
 pub record First (vs : List ℕ) (c u d : ℕ) : Type 0 where
   pub later : c ≤ d

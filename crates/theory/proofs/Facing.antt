@@ -39,18 +39,21 @@ module _ (os : List ℕ) where
           or-right (a (3 * triangle c)) (a (3 * triangle c + 1) || a (3 * triangle c + 2))
           (or-right (a (3 * triangle c + 1)) (a (3 * triangle c + 2)) (ap a (sym e) ∙ h))
 
-  pub touches-one : (ks : List ℕ) (k : ℕ) → touches os ks k ≡ true → (c : ℕ) × (triangle c ≡ k) × (mem (triangle (opposite os c)) ks ≡ true)
+  pub touches-one : (ks : List ℕ) (k : ℕ) → touches os ks k ≡ true
+      → (c : ℕ) × (triangle c ≡ k) × (mem (triangle (opposite os c)) ks ≡ true)
   unfolding touches
   touches-one ks k h = go (or-cases (a (3 * k)) (a (3 * k + 1) || a (3 * k + 2)) h)
     where
       a : ℕ → Bool
       a d = mem (triangle (opposite os d)) ks
 
-      last : (a (3 * k + 1) ≡ true) ⊎ (a (3 * k + 2) ≡ true) → (c : ℕ) × (triangle c ≡ k) × (mem (triangle (opposite os c)) ks ≡ true)
+      last : (a (3 * k + 1) ≡ true) ⊎ (a (3 * k + 2) ≡ true)
+          → (c : ℕ) × (triangle c ≡ k) × (mem (triangle (opposite os c)) ks ≡ true)
       last (inl e) = (3 * k + 1, omega arith, e)
       last (inr e) = (3 * k + 2, omega arith, e)
 
-      go : (a (3 * k) ≡ true) ⊎ ((a (3 * k + 1) || a (3 * k + 2)) ≡ true) → (c : ℕ) × (triangle c ≡ k) × (mem (triangle (opposite os c)) ks ≡ true)
+      go : (a (3 * k) ≡ true) ⊎ ((a (3 * k + 1) || a (3 * k + 2)) ≡ true)
+          → (c : ℕ) × (triangle c ≡ k) × (mem (triangle (opposite os c)) ks ≡ true)
       go (inl e) = (3 * k, omega arith, e)
       go (inr e) = last (or-cases (a (3 * k + 1)) (a (3 * k + 2)) e)
 
@@ -63,7 +66,8 @@ module _ (os : List ℕ) where
     facing-in zero i k h l e = absurd (omega arith)
     facing-in (suc n) i k h l e = go (ℕ-discrete k i) (new i) refl (facing-in n (suc i) k)
       where
-        go : Dec (k ≡ i) → (b : Bool) → new i ≡ b → (suc i ≤ k → k < suc i + n → new k ≡ true → mem k (facing os ks n (suc i)) ≡ true)
+        go : Dec (k ≡ i) → (b : Bool) → new i ≡ b
+            → (suc i ≤ k → k < suc i + n → new k ≡ true → mem k (facing os ks n (suc i)) ≡ true)
             → mem k (cond b (i ∷ facing os ks n (suc i)) (facing os ks n (suc i))) ≡ true
         go (yes p) true q f = or-left (eqb k i) (mem k (facing os ks n (suc i))) (eq-eqb k i p)
         go (yes p) false q f = absurd (not-both (new k) e (ap new p ∙ q))
@@ -71,15 +75,18 @@ module _ (os : List ℕ) where
         go (no p) false q f = f (omega arith) (omega arith) e
 
     -- counted at most once, and only a new one from i on
-    pub facing-count : (n i k : ℕ) → (count k (facing os ks n i) ≤ 1) × (1 ≤ count k (facing os ks n i) → (i ≤ k) × (k < i + n) × (new k ≡ true))
+    pub facing-count : (n i k : ℕ)
+        → (count k (facing os ks n i) ≤ 1) × (1 ≤ count k (facing os ks n i) → (i ≤ k) × (k < i + n) × (new k ≡ true))
     unfolding facing count
     facing-count zero i k = (omega arith, λ h. absurd (omega arith))
-    facing-count (suc n) i k = go (ℕ-discrete k i) (new i) refl (facing-count n (suc i) k .0) (facing-count n (suc i) k .1)
+    facing-count (suc n) i k =
+        go (ℕ-discrete k i) (new i) refl (facing-count n (suc i) k .0) (facing-count n (suc i) k .1)
       where
         more : ℕ
         more = count k (facing os ks n (suc i))
 
-        go : Dec (k ≡ i) → (b : Bool) → new i ≡ b → more ≤ 1 → (1 ≤ more → (suc i ≤ k) × (k < suc i + n) × (new k ≡ true))
+        go : Dec (k ≡ i) → (b : Bool) → new i ≡ b → more ≤ 1
+            → (1 ≤ more → (suc i ≤ k) × (k < suc i + n) × (new k ≡ true))
             → (count k (cond b (i ∷ facing os ks n (suc i)) (facing os ks n (suc i))) ≤ 1)
             × (1 ≤ count k (cond b (i ∷ facing os ks n (suc i)) (facing os ks n (suc i))) → (i ≤ k) × (k < i + suc n) × (new k ≡ true))
         go (yes p) true q h f = (omega (arith, bit-on k i p, gone), λ l. (omega arith, omega arith, ap new p ∙ q))
@@ -90,6 +97,7 @@ module _ (os : List ℕ) where
                 at : Dec (more ≡ 0) → more ≡ 0
                 at (yes z) = z
                 at (no z) = absurd (omega (arith, f (omega arith) .0))
-        go (no p) true q h f = (omega (arith, bit-off k i p), λ l. let r = f (omega (arith, bit-off k i p)) in (omega (arith, r .0), omega (arith, r .1), r .2))
+        go (no p) true q h f =
+            (omega (arith, bit-off k i p), λ l. let r = f (omega (arith, bit-off k i p)) in (omega (arith, r .0), omega (arith, r .1), r .2))
         go (yes p) false q h f = (h, λ l. let r = f l in (omega (arith, r .0), omega (arith, r .1), r .2))
         go (no p) false q h f = (h, λ l. let r = f l in (omega (arith, r .0), omega (arith, r .1), r .2))

@@ -36,7 +36,8 @@ pub shape-of : (vs os : List ℕ) → shapeOk vs os ≡ true → Shape vs os
 unfolding shapeOk countOk
 shape-of vs os e =
     let t = length vs / 3 in
-    let a = split (eqb (length vs) (length os)) (eqb (length vs % 3) 0 && (eqb (t % 2) 0 && (leb 2 t && leb t 65536))) e in
+    let a = split (eqb (length vs) (length os))
+    (eqb (length vs % 3) 0 && (eqb (t % 2) 0 && (leb 2 t && leb t 65536))) e in
     let b = split (eqb (length vs % 3) 0) (eqb (t % 2) 0 && (leb 2 t && leb t 65536)) (a .1) in
     let c = split (eqb (t % 2) 0) (leb 2 t && leb t 65536) (b .1) in
     let d = split (leb 2 t) (leb t 65536) (c .1) in
@@ -81,9 +82,12 @@ module _ (vs os : List ℕ) (c : ℕ) where
 
   pub glued-of : gluedAt vs os c ≡ true → vertex vs (next c) ≡ vertex vs (previous (opposite os c))
   unfolding gluedAt
-  glued-of e = eqb-true (ahead c) (behind (opposite os c)) (and-left (eqb (ahead c) (behind (opposite os c))) (eqb (behind c) (ahead (opposite os c))) e)
+  glued-of e =
+      eqb-true (ahead c) (behind (opposite os c))
+      (and-left (eqb (ahead c) (behind (opposite os c))) (eqb (behind c) (ahead (opposite os c))) e)
 
-  pub glued-test : vertex vs (next c) ≡ vertex vs (previous (opposite os c)) → vertex vs (previous c) ≡ vertex vs (next (opposite os c)) → gluedAt vs os c ≡ true
+  pub glued-test : vertex vs (next c) ≡ vertex vs (previous (opposite os c))
+      → vertex vs (previous c) ≡ vertex vs (next (opposite os c)) → gluedAt vs os c ≡ true
   unfolding gluedAt
   glued-test p q = rw (eq-eqb (ahead c) (behind (opposite os c)) p, eq-eqb (behind c) (ahead (opposite os c)) q)
 
@@ -123,9 +127,12 @@ module _ (vs : List ℕ) where
   unfolding apartAt
   apart-test k f =
       rw (
-        ne-eqb (vertex vs (3 * k)) (vertex vs (3 * k + 1)) (subst (Differ (3 * k)) (next-tip k) (f (3 * k) (omega arith))),
-        ne-eqb (vertex vs (3 * k + 1)) (vertex vs (3 * k + 2)) (subst (Differ (3 * k + 1)) (next-left k) (f (3 * k + 1) (omega arith))),
-        ne-eqb (vertex vs (3 * k + 2)) (vertex vs (3 * k)) (subst (Differ (3 * k + 2)) (next-right k) (f (3 * k + 2) (omega arith))),
+        ne-eqb (vertex vs (3 * k)) (vertex vs (3 * k + 1))
+            (subst (Differ (3 * k)) (next-tip k) (f (3 * k) (omega arith))),
+        ne-eqb (vertex vs (3 * k + 1)) (vertex vs (3 * k + 2))
+            (subst (Differ (3 * k + 1)) (next-left k) (f (3 * k + 1) (omega arith))),
+        ne-eqb (vertex vs (3 * k + 2)) (vertex vs (3 * k))
+            (subst (Differ (3 * k + 2)) (next-right k) (f (3 * k + 2) (omega arith))),
       )
 
 -- ---- beyond the table a corner is its own opposite, and has no vertex but 0

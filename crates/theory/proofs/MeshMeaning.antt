@@ -36,7 +36,8 @@ module _ (vs os : List ℕ) (v g : ℕ) where
       let ring = passes-each 13 (ringedAt vs os) v e13 in
       let gate : g < length vs = ltb-true g (length vs) (passes-whole 8 (ltb g (length vs)) e8) in
       let low : (c : ℕ) → c < 3 * (length vs / 3) → c < length vs = λ c h. omega (arith, s .thirds) in
-      let name : (c : ℕ) → c < 3 * (length vs / 3) → vertex vs c < v = λ c h. ltb-true (vertex vs c) v (passes-each 9 (belowAt vs v) (length vs) e9 c (low c h)) in
+      let name : (c : ℕ) → c < 3 * (length vs / 3) → vertex vs c < v = λ c h. ltb-true (vertex vs c) v
+      (passes-each 9 (belowAt vs v) (length vs) e9 c (low c h)) in
       record {
         shape = shape;
         sphere = record {
@@ -50,10 +51,13 @@ module _ (vs os : List ℕ) (v g : ℕ) where
           present = λ u h.
               let f = first-in vs u (ringed-present vs os u (ring u h)) in
               (firstCorner vs u, omega (arith, f .0, s .thirds), f .1);
-          reaches = λ k h. reached-sound os t (triangle g) (surf .paired) t k (passes-each 14 (reachedAt os t g) t e14 k h);
+          reaches =
+              λ k h. reached-sound os t (triangle g) (surf .paired) t k (passes-each 14 (reachedAt os t g) t e14 k h);
           euler = eqb-true (t + 4) (2 * v) (passes-whole 15 (eqb (t + 4) (2 * v)) e15);
         };
-        rings = λ c d hc hd q. ring-between surf (vertex vs d) (ring (vertex vs d) (name d hd)) c d (low c hc) q (low d hd) refl;
+        rings =
+            λ c d hc hd q. ring-between surf (vertex vs d) (ring (vertex vs d) (name d hd)) c d (low c hc) q
+            (low d hd) refl;
       }
 
   pub accepted-passed : Accepted vs os v g → Passed (meshRungs vs os v g)
@@ -65,7 +69,8 @@ module _ (vs os : List ℕ) (v g : ℕ) where
       let low : (c : ℕ) → c < length vs → c < 3 * (length vs / 3) = λ c h. omega (arith, s .thirds) in
       let pairs : (c : ℕ) → c < length vs → pairedAt os c ≡ true = λ c h. paired-test os c (record { inside = omega (arith, r .inside c (low c h), s .same); back = r .paired c; moves = r .moves c (low c h) }) in
       let glue : (c : ℕ) → c < length vs → gluedAt vs os c ≡ true
-      = λ c h. glued-test vs os c (r .glued c) (sym (r .glued (opposite os c) ∙ ap (λ (d : ℕ). vertex vs (previous d)) (r .paired c))) in
+      = λ c h. glued-test vs os c (r .glued c)
+      (sym (r .glued (opposite os c) ∙ ap (λ (d : ℕ). vertex vs (previous d)) (r .paired c))) in
       let surf = surface-of vs os s pairs glue in
       let gate : triangle g < t = omega (arith, r .gate) in (
         whole-passes 8 (ltb g (length vs)) (lt-ltb g (length vs) (omega (arith, r .gate))),
@@ -80,7 +85,8 @@ module _ (vs os : List ℕ) (v g : ℕ) where
                 (
                   each-passes 13 (ringedAt vs os) v (λ u h. rings u (r .present u h) surf),
                   (
-                    each-passes 14 (reachedAt os t g) t (λ k h. reached-whole os t (triangle g) (r .paired) (r .inside) (omega (arith, s .same, s .thirds)) gate (r .reaches k h)),
+                    each-passes 14 (reachedAt os t g) t
+                        (λ k h. reached-whole os t (triangle g) (r .paired) (r .inside) (omega (arith, s .same, s .thirds)) gate (r .reaches k h)),
                     (
                       whole-passes 15 (eqb (t + 4) (2 * v)) (eq-eqb (t + 4) (2 * v) (r .euler)),
                       tt,
@@ -93,7 +99,8 @@ module _ (vs os : List ℕ) (v g : ℕ) where
         ),
       )
     where
-      rings : (u : ℕ) → (c : ℕ) × (c < 3 * (length vs / 3)) × (vertex vs c ≡ u) → Surface vs os → ringedAt vs os u ≡ true
+      rings : (u : ℕ) → (c : ℕ) × (c < 3 * (length vs / 3)) × (vertex vs c ≡ u) → Surface vs os
+          → ringedAt vs os u ≡ true
       rings u p surf =
           let c = counted u (p .0) vs (omega (arith, p .1)) (p .2) in
           let f = first-in vs u c in
@@ -101,14 +108,17 @@ module _ (vs os : List ℕ) (v g : ℕ) where
           ringed-from surf u c (λ d h e. a .rings (firstCorner vs u) d (omega (arith, f .0, s .thirds)) (omega (arith, s .thirds)) (f .1 ∙ sym e))
 
   abbrev named : Named (meshRungs vs os v g)
-  named = (omega arith, (omega arith, (omega arith, (omega arith, (omega arith, (omega arith, (omega arith, (omega arith, tt))))))))
+  named =
+      (omega arith, (omega arith, (omega arith, (omega arith, (omega arith, (omega arith, (omega arith, (omega arith, tt))))))))
 
   -- ---- the checks 8 to 15
 
-  pub judged-accepted : shapeOk vs os ≡ true → firstBroken (meshRungs vs os v g) (done (length vs / 3) v) .number ≡ 0 → Accepted vs os v g
+  pub judged-accepted : shapeOk vs os ≡ true → firstBroken (meshRungs vs os v g) (done (length vs / 3) v) .number ≡ 0
+      → Accepted vs os v g
   judged-accepted shape e = passed-accepted shape (done-passed (meshRungs vs os v g) (done (length vs / 3) v) named e)
 
-  pub judged-accepts : Accepted vs os v g → firstBroken (meshRungs vs os v g) (done (length vs / 3) v) ≡ done (length vs / 3) v
+  pub judged-accepts : Accepted vs os v g
+      → firstBroken (meshRungs vs os v g) (done (length vs / 3) v) ≡ done (length vs / 3) v
   judged-accepts a = passed-done (meshRungs vs os v g) (done (length vs / 3) v) (accepted-passed a)
 
   -- ---- all checks
@@ -116,7 +126,8 @@ module _ (vs os : List ℕ) (v g : ℕ) where
   pub accepted : (fits : Bool) → meshAnswer vs os v g fits .number ≡ 0 → Accepted vs os v g
   unfolding meshAnswer
   accepted fits e =
-      let p = done-passed (whole 1 (shapeOk vs os) ∷ roomRung fits ∷ meshRungs vs os v g) (done (length vs / 3) v) (omega arith, (omega arith, named)) e in
+      let p = done-passed (whole 1 (shapeOk vs os) ∷ roomRung fits ∷ meshRungs vs os v g) (done (length vs / 3) v)
+      (omega arith, (omega arith, named)) e in
       passed-accepted (passes-whole 1 (shapeOk vs os) (p .0)) (p .1 .1)
 
   pub accepts : Accepted vs os v g → meshAnswer vs os v g true ≡ done (length vs / 3) v

@@ -53,7 +53,8 @@ unfolding places count bit
 length-places u i [] = refl
 length-places u i (y ∷ l) = go (ℕ-discrete u y) (length-places u (suc i) l)
   where
-    go : Dec (u ≡ y) → length (places u (suc i) l) ≡ count u l → length (cond (eqb u y) (i ∷ places u (suc i) l) (places u (suc i) l)) ≡ bit (eqb u y) + count u l
+    go : Dec (u ≡ y) → length (places u (suc i) l) ≡ count u l
+        → length (cond (eqb u y) (i ∷ places u (suc i) l) (places u (suc i) l)) ≡ bit (eqb u y) + count u l
     go (yes e) z = rw (eq-eqb u y e) (omega arith)
     go (no n) z = rw (ne-eqb u y n) (omega arith)
 
@@ -63,7 +64,8 @@ unfolding places count bit
 places-low u i d [] h = refl
 places-low u i d (y ∷ l) h = go (ℕ-discrete u y) (places-low u (suc i) d l (omega arith))
   where
-    go : Dec (u ≡ y) → count d (places u (suc i) l) ≡ 0 → count d (cond (eqb u y) (i ∷ places u (suc i) l) (places u (suc i) l)) ≡ 0
+    go : Dec (u ≡ y) → count d (places u (suc i) l) ≡ 0
+        → count d (cond (eqb u y) (i ∷ places u (suc i) l) (places u (suc i) l)) ≡ 0
     go (yes e) z = let b = bit-off d i (λ q. omega arith) in rw (eq-eqb u y e) (omega arith)
     go (no n) z = rw (ne-eqb u y n) (omega arith)
 
@@ -72,8 +74,12 @@ unfolding places count bit
 places-once u i d [] = omega arith
 places-once u i d (y ∷ l) = go (ℕ-discrete u y) (ℕ-discrete d i) (places-once u (suc i) d l)
   where
-    go : Dec (u ≡ y) → Dec (d ≡ i) → count d (places u (suc i) l) ≤ 1 → count d (cond (eqb u y) (i ∷ places u (suc i) l) (places u (suc i) l)) ≤ 1
-    go (yes e) (yes q) z = let b = bit-on d i q in let a = places-low u (suc i) d l (omega arith) in rw (eq-eqb u y e) (omega arith)
+    go : Dec (u ≡ y) → Dec (d ≡ i) → count d (places u (suc i) l) ≤ 1
+        → count d (cond (eqb u y) (i ∷ places u (suc i) l) (places u (suc i) l)) ≤ 1
+    go (yes e) (yes q) z =
+        let b = bit-on d i q in
+        let a = places-low u (suc i) d l (omega arith) in
+        rw (eq-eqb u y e) (omega arith)
     go (yes e) (no q) z = let b = bit-off d i q in rw (eq-eqb u y e) (omega arith)
     go (no n) q z = rw (ne-eqb u y n) (omega arith)
 
@@ -83,14 +89,16 @@ places-in u i d [] h e = absurd (omega arith)
 places-in u i zero (y ∷ l) h e = let b = bit-on (i + 0) i (omega arith) in rw (eq-eqb u y (sym e)) (omega arith)
 places-in u i (suc d) (y ∷ l) h e = go (ℕ-discrete u y) (places-in u (suc i) d l (omega arith) e)
   where
-    go : Dec (u ≡ y) → 1 ≤ count (suc i + d) (places u (suc i) l) → 1 ≤ count (i + suc d) (cond (eqb u y) (i ∷ places u (suc i) l) (places u (suc i) l))
+    go : Dec (u ≡ y) → 1 ≤ count (suc i + d) (places u (suc i) l)
+        → 1 ≤ count (i + suc d) (cond (eqb u y) (i ∷ places u (suc i) l) (places u (suc i) l))
     go (yes q) z = let p : i + suc d ≡ suc i + d = omega arith in rw (eq-eqb u y q, p) (omega arith)
     go (no n) z = let p : i + suc d ≡ suc i + d = omega arith in rw (ne-eqb u y n, p) (omega arith)
 
 pub places-at : (u d : ℕ) (l : List ℕ) → d < length l → getD l d 0 ≡ u → 1 ≤ count d (places u 0 l)
 places-at u d l h e = let q : 0 + d ≡ d = omega arith in rw q at (places-in u 0 d l h e)
 
-pub places-only : (u i d : ℕ) (l : List ℕ) → 1 ≤ count d (places u i l) → (i ≤ d) × (d < i + length l) × (getD l (d - i) 0 ≡ u)
+pub places-only : (u i d : ℕ) (l : List ℕ) → 1 ≤ count d (places u i l)
+    → (i ≤ d) × (d < i + length l) × (getD l (d - i) 0 ≡ u)
 unfolding places count bit
 places-only u i d [] h = absurd (omega arith)
 places-only u i d (y ∷ l) h = go (ℕ-discrete u y) (ℕ-discrete d i) (places-only u (suc i) d l)
@@ -98,7 +106,8 @@ places-only u i d (y ∷ l) h = go (ℕ-discrete u y) (ℕ-discrete d i) (places
     beyond : (i ≤ d) → (suc i ≤ d) × (d < suc i + length l) × (getD l (d - suc i) 0 ≡ u) → getD (y ∷ l) (d - i) 0 ≡ u
     beyond p r = let q : d - i ≡ suc (d - suc i) = omega (arith, r .0) in rw q (r .2)
 
-    go : Dec (u ≡ y) → Dec (d ≡ i) → (1 ≤ count d (places u (suc i) l) → (suc i ≤ d) × (d < suc i + length l) × (getD l (d - suc i) 0 ≡ u))
+    go : Dec (u ≡ y) → Dec (d ≡ i)
+        → (1 ≤ count d (places u (suc i) l) → (suc i ≤ d) × (d < suc i + length l) × (getD l (d - suc i) 0 ≡ u))
         → (i ≤ d) × (d < i + suc (length l)) × (getD (y ∷ l) (d - i) 0 ≡ u)
     go (yes e) (yes q) f = let z : d - i ≡ 0 = omega arith in (omega arith, omega arith, rw z (sym e))
     go (yes e) (no q) f =
@@ -121,19 +130,24 @@ unfolding count
 count-find u [] h = absurd (omega arith)
 count-find u (y ∷ l) h = go (ℕ-discrete u y) (count-find u l)
   where
-    go : Dec (u ≡ y) → (1 ≤ count u l → (d : ℕ) × (d < length l) × (getD l d 0 ≡ u)) → (d : ℕ) × (d < suc (length l)) × (getD (y ∷ l) d 0 ≡ u)
+    go : Dec (u ≡ y) → (1 ≤ count u l → (d : ℕ) × (d < length l) × (getD l d 0 ≡ u))
+        → (d : ℕ) × (d < suc (length l)) × (getD (y ∷ l) d 0 ≡ u)
     go (yes e) f = (0, omega arith, sym e)
     go (no n) f = let b = bit-off u y n in let r = f (omega arith) in (suc (r .0), omega (arith, r .1), r .2)
 
 pub count-short : (u : ℕ) (l : List ℕ) → count u l ≤ length l
-count-short u l = let a = pigeon (places u 0 l) (vals (λ i. i) (length l)) among in omega (arith, length-places u 0 l, length-vals (λ i. i) (length l))
+count-short u l =
+    let a = pigeon (places u 0 l) (vals (λ i. i) (length l)) among in
+    omega (arith, length-places u 0 l, length-vals (λ i. i) (length l))
   where
     among : (d : ℕ) → count d (places u 0 l) ≤ count d (vals (λ i. i) (length l))
     among d = go (ℕ-discrete (count d (places u 0 l)) 0)
       where
         go : Dec (count d (places u 0 l) ≡ 0) → count d (places u 0 l) ≤ count d (vals (λ i. i) (length l))
         go (yes e) = omega arith
-        go (no n) = let p = places-only u 0 d l (omega arith) in omega (arith, places-once u 0 d l, vals-in d (length l) (omega (arith, p .1)))
+        go (no n) =
+            let p = places-only u 0 d l (omega arith) in
+            omega (arith, places-once u 0 d l, vals-in d (length l) (omega (arith, p .1)))
 
 -- numbers below n that all stand in a list are no more than it is long
 pub present-few : (n : ℕ) (l : List ℕ) → ((u : ℕ) → u < n → 1 ≤ count u l) → n ≤ length l

@@ -46,7 +46,8 @@ module _ (os : List ℕ) (t a : ℕ) where
       add : List ℕ
       add = facing os ks t 0
 
-      go : (mem k ks ≡ true) ⊎ (mem k ks ≡ false) → (count k ks ≤ 1) × (1 ≤ count k ks → k < t) → (count k (ks ++ add) ≤ 1) × (1 ≤ count k (ks ++ add) → k < t)
+      go : (mem k ks ≡ true) ⊎ (mem k ks ≡ false) → (count k ks ≤ 1) × (1 ≤ count k ks → k < t)
+          → (count k (ks ++ add) ≤ 1) × (1 ≤ count k (ks ++ add) → k < t)
       go (inl e) r = (omega (arith, r .0, count-append k ks add, old), λ l. r .1 (mem-true k ks e))
         where
           old : count k add ≡ 0
@@ -54,7 +55,9 @@ module _ (os : List ℕ) (t a : ℕ) where
             where
               at : Dec (count k add ≡ 0) → count k add ≡ 0
               at (yes z) = z
-              at (no z) = let q = facing-count os ks t 0 k .1 (omega arith) .2 in absurd (not-both (mem k ks) e (not-is-true (mem k ks) (and-left (not (mem k ks)) (touches os ks k) q)))
+              at (no z) =
+                  let q = facing-count os ks t 0 k .1 (omega arith) .2 in
+                  absurd (not-both (mem k ks) e (not-is-true (mem k ks) (and-left (not (mem k ks)) (touches os ks k) q)))
       go (inr e) r =
           let z = mem-false k ks e in
           let f = facing-count os ks t 0 k in
@@ -87,10 +90,12 @@ module _ (os : List ℕ) (t a : ℕ) where
       settled e k h = at (true-or-false (new os ks k))
         where
           at : (new os ks k ≡ true) ⊎ (new os ks k ≡ false) → new os ks k ≡ false
-          at (inl q) = absurd (not-both (mem k []) (ap (mem k) (sym e) ∙ facing-in os ks t 0 k (omega arith) (omega arith) q) refl)
+          at (inl q) =
+              absurd (not-both (mem k []) (ap (mem k) (sym e) ∙ facing-in os ks t 0 k (omega arith) (omega arith) q) refl)
           at (inr q) = q
 
-      go : (add : List ℕ) → facing os ks t 0 ≡ add → (n < length ks) ⊎ Settled ks → (suc n < length (ks ++ facing os ks t 0)) ⊎ Settled (ks ++ facing os ks t 0)
+      go : (add : List ℕ) → facing os ks t 0 ≡ add → (n < length ks) ⊎ Settled ks
+          → (suc n < length (ks ++ facing os ks t 0)) ⊎ Settled (ks ++ facing os ks t 0)
       go [] e r = inr (subst Settled (sym (ap (_++_ ks) e ∙ append-nil ks)) (settled e))
       go (x ∷ add) e (inl h) = inl (omega (arith, length-append ks (facing os ks t 0), ap length e))
       go (x ∷ add) e (inr s) =
@@ -105,16 +110,22 @@ module _ (os : List ℕ) (t a : ℕ) (paired : (c : ℕ) → opposite os (opposi
       go : (eqb k a ≡ true) ⊎ (false ≡ true) → Reach (opposite os) a k
       go (inl q) = subst (Reach (opposite os) a) (sym (eqb-true k a q)) here
       go (inr q) = absurd (not-both false q refl)
-  reached-sound (suc n) k e = go (λ j. reached-sound n j) (or-cases (mem k ks) (mem k (facing os ks t 0)) (sym (mem-append k ks (facing os ks t 0)) ∙ e))
+  reached-sound (suc n) k e =
+      go (λ j. reached-sound n j)
+      (or-cases (mem k ks) (mem k (facing os ks t 0)) (sym (mem-append k ks (facing os ks t 0)) ∙ e))
     where
       ks : List ℕ
       ks = reached os t n a
 
       -- k has a corner c that faces a triangle reached before
-      behind : ((j : ℕ) → mem j ks ≡ true → Reach (opposite os) a j) → (c : ℕ) × (triangle c ≡ k) × (mem (triangle (opposite os c)) ks ≡ true) → Reach (opposite os) a k
-      behind f (c, p, q) = subst (Reach (opposite os) a) (ap triangle (paired c) ∙ p) (over (opposite os c) (f (triangle (opposite os c)) q))
+      behind : ((j : ℕ) → mem j ks ≡ true → Reach (opposite os) a j)
+          → (c : ℕ) × (triangle c ≡ k) × (mem (triangle (opposite os c)) ks ≡ true) → Reach (opposite os) a k
+      behind f (c, p, q) =
+          subst (Reach (opposite os) a) (ap triangle (paired c) ∙ p)
+          (over (opposite os c) (f (triangle (opposite os c)) q))
 
-      go : ((j : ℕ) → mem j ks ≡ true → Reach (opposite os) a j) → (mem k ks ≡ true) ⊎ (mem k (facing os ks t 0) ≡ true) → Reach (opposite os) a k
+      go : ((j : ℕ) → mem j ks ≡ true → Reach (opposite os) a j) → (mem k ks ≡ true) ⊎ (mem k (facing os ks t 0) ≡ true)
+          → Reach (opposite os) a k
       go f (inl q) = f k q
       go f (inr q) =
           behind f (touches-one os ks k (and-right (not (mem k ks)) (touches os ks k) (facing-count os ks t 0 k .1 (mem-true k (facing os ks t 0) q) .2)))
@@ -132,7 +143,8 @@ module _ (os : List ℕ) (t a : ℕ) (paired : (c : ℕ) → opposite os (opposi
 
     pub reached-whole : {k : ℕ} → Reach (opposite os) a k → mem k met ≡ true
     reached-whole here = reached-start os t a t
-    reached-whole (over c r) = go (decLt c (3 * t)) (true-or-false (mem (triangle (opposite os c)) met)) (reached-whole r)
+    reached-whole (over c r) =
+        go (decLt c (3 * t)) (true-or-false (mem (triangle (opposite os c)) met)) (reached-whole r)
       where
         go : Dec (c < 3 * t) → (mem (triangle (opposite os c)) met ≡ true) ⊎ (mem (triangle (opposite os c)) met ≡ false)
             → mem (triangle c) met ≡ true → mem (triangle (opposite os c)) met ≡ true

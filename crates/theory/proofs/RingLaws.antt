@@ -48,7 +48,8 @@ module _ {vs os : List ℕ} (s : Surface vs os) (u : ℕ) where
       among : (y : ℕ) → count y (d ∷ vals (after c) k) ≤ count y (places u 0 vs)
       among y = go (ℕ-discrete y d) (ℕ-discrete (count y (vals (after c) k)) 0)
         where
-          go : Dec (y ≡ d) → Dec (count y (vals (after c) k) ≡ 0) → bit (eqb y d) + count y (vals (after c) k) ≤ count y (places u 0 vs)
+          go : Dec (y ≡ d) → Dec (count y (vals (after c) k) ≡ 0)
+              → bit (eqb y d) + count y (vals (after c) k) ≤ count y (places u 0 vs)
           go (yes q) z =
               let a : 1 ≤ count y (places u 0 vs) = rw q (places-at u d vs hd ld) in
               omega (arith, bit-on y d q, vals-off (after c) y k (λ i h z. off i h (sym q ∙ z)))
@@ -58,7 +59,8 @@ module _ {vs os : List ℕ} (s : Surface vs os) (u : ℕ) where
               omega (arith, met y (r .0) (r .2), bit-off y d q, vals-apart (after c) y k (swings-apart s c k far))
 
   -- if fewer than j swings meet all corners of u, it has at most j
-  swings-all : (c j : ℕ) → ((d : ℕ) → d < length vs → vertex vs d ≡ u → (i : ℕ) × (i < j) × (swings os i c ≡ d)) → count u vs ≤ j
+  swings-all : (c j : ℕ) → ((d : ℕ) → d < length vs → vertex vs d ≡ u → (i : ℕ) × (i < j) × (swings os i c ≡ d))
+      → count u vs ≤ j
   swings-all c j f =
       let a = pigeon (places u 0 vs) (vals (after c) j) among in
       let b = length-vals (after c) j in
@@ -82,7 +84,8 @@ module _ {vs os : List ℕ} (s : Surface vs os) (u : ℕ) where
       → (d : ℕ) → d < length vs → vertex vs d ≡ u → (i : ℕ) × (i < count u vs) × (swings os i (firstCorner vs u) ≡ d)
   away-meets p far d hd ld = go (ℕ-discrete (count d (vals (after (firstCorner vs u)) (count u vs))) 0)
     where
-      go : Dec (count d (vals (after (firstCorner vs u)) (count u vs)) ≡ 0) → (i : ℕ) × (i < count u vs) × (swings os i (firstCorner vs u) ≡ d)
+      go : Dec (count d (vals (after (firstCorner vs u)) (count u vs)) ≡ 0)
+          → (i : ℕ) × (i < count u vs) × (swings os i (firstCorner vs u) ≡ d)
       go (yes z) =
           let f = first-in vs u p in
           absurd (omega (arith, swings-few (firstCorner vs u) (count u vs) d (f .0) (f .1) far hd ld (λ i l e. omega (arith, vals-meet (after (firstCorner vs u)) d (count u vs) i l (sym e)))))
@@ -92,14 +95,17 @@ module _ {vs os : List ℕ} (s : Surface vs os) (u : ℕ) where
   abbrev still : ℕ → Bool
   still i = not (eqb (swings os (suc i) (firstCorner vs u)) (firstCorner vs u))
 
-  away-far : awayFor os (firstCorner vs u) (count u vs) ≡ true → (j : ℕ) → 0 < j → j < count u vs → swings os j (firstCorner vs u) ≢ firstCorner vs u
+  away-far : awayFor os (firstCorner vs u) (count u vs) ≡ true → (j : ℕ) → 0 < j → j < count u vs
+      → swings os j (firstCorner vs u) ≢ firstCorner vs u
   unfolding awayFor
   away-far t zero a b = absurd (omega arith)
   away-far t (suc j) a b =
-      eqb-false (swings os (suc j) (firstCorner vs u)) (firstCorner vs u) (not-is-true (eqb (swings os (suc j) (firstCorner vs u)) (firstCorner vs u)) (all-each still (count u vs - 1) t j (omega arith)))
+      eqb-false (swings os (suc j) (firstCorner vs u)) (firstCorner vs u)
+      (not-is-true (eqb (swings os (suc j) (firstCorner vs u)) (firstCorner vs u)) (all-each still (count u vs - 1) t j (omega arith)))
 
   -- .. if swinging meets all corners of u
-  meets-away : ((d : ℕ) → d < length vs → vertex vs d ≡ u → (i : ℕ) × (swings os i (firstCorner vs u) ≡ d)) → awayFor os (firstCorner vs u) (count u vs) ≡ true
+  meets-away : ((d : ℕ) → d < length vs → vertex vs d ≡ u → (i : ℕ) × (swings os i (firstCorner vs u) ≡ d))
+      → awayFor os (firstCorner vs u) (count u vs) ≡ true
   unfolding awayFor
   meets-away f = all-true still (count u vs - 1) among
     where
@@ -122,7 +128,9 @@ module _ {vs os : List ℕ} (s : Surface vs os) (u : ℕ) where
       (λ t. meets-away (λ d h e. let r = ringed-meets vs os u t d h e in (r .0, r .2)))
 
   -- the test from the proposition: the number of swings need not be bounded
-  pub ringed-from : 1 ≤ count u vs → ((d : ℕ) → d < length vs → vertex vs d ≡ u → (i : ℕ) × (swings os i (firstCorner vs u) ≡ d)) → ringedAt vs os u ≡ true
+  pub ringed-from : 1 ≤ count u vs
+      → ((d : ℕ) → d < length vs → vertex vs d ≡ u → (i : ℕ) × (swings os i (firstCorner vs u) ≡ d))
+      → ringedAt vs os u ≡ true
   ringed-from p f = sym (ring-count p) ∙ meets-away f
 
   -- the ring closes after as many swings as u has corners
@@ -139,16 +147,22 @@ module _ {vs os : List ℕ} (s : Surface vs os) (u : ℕ) where
       low = let f = first-in vs u p in omega (arith, f .0, s .same)
 
       met : (i : ℕ) × (i < count u vs) × (swings os i (firstCorner vs u) ≡ swings os (count u vs) (firstCorner vs u))
-      met = away-meets p far (swings os (count u vs) (firstCorner vs u)) (omega (arith, swings-low s (count u vs) (firstCorner vs u) low, s .same)) (swings-vertex s (count u vs) (firstCorner vs u) ∙ first-in vs u p .1)
+      met =
+          away-meets p far (swings os (count u vs) (firstCorner vs u))
+          (omega (arith, swings-low s (count u vs) (firstCorner vs u) low, s .same))
+          (swings-vertex s (count u vs) (firstCorner vs u) ∙ first-in vs u p .1)
 
-      go : (k : ℕ) → count u vs ≡ k → (i : ℕ) → i < count u vs → swings os i (firstCorner vs u) ≡ swings os (count u vs) (firstCorner vs u) → swings os (count u vs) (firstCorner vs u) ≡ firstCorner vs u
+      go : (k : ℕ) → count u vs ≡ k → (i : ℕ) → i < count u vs
+          → swings os i (firstCorner vs u) ≡ swings os (count u vs) (firstCorner vs u)
+          → swings os (count u vs) (firstCorner vs u) ≡ firstCorner vs u
       go zero e i h q = absurd (omega arith)
       go (suc k) e zero h q = sym q ∙ swings-none os (firstCorner vs u)
       go (suc k) e (suc i) h q =
           absurd (swings-apart s (firstCorner vs u) (count u vs) far i k (omega arith) (omega arith) (swing-inj s (swings os i (firstCorner vs u)) (swings os k (firstCorner vs u)) (sym (swings-more os i (firstCorner vs u)) ∙ q ∙ ap (λ (z : ℕ). swings os z (firstCorner vs u)) e ∙ swings-more os k (firstCorner vs u))))
 
   -- from any corner of u to any other
-  pub ring-between : ringedAt vs os u ≡ true → (a b : ℕ) → a < length vs → vertex vs a ≡ u → b < length vs → vertex vs b ≡ u → (i : ℕ) × (swings os i a ≡ b)
+  pub ring-between : ringedAt vs os u ≡ true → (a b : ℕ) → a < length vs → vertex vs a ≡ u → b < length vs
+      → vertex vs b ≡ u → (i : ℕ) × (swings os i a ≡ b)
   ring-between t a b ha la hb lb =
       let c = firstCorner vs u in
       let p = ringed-present vs os u t in
@@ -158,6 +172,7 @@ module _ {vs os : List ℕ} (s : Surface vs os) (u : ℕ) where
       let m = rb .0 + (count u vs - z .0) in
       let e : (rb .0 + (count u vs - z .0)) + z .0 ≡ rb .0 + count u vs = omega (arith, z .1) in (
         m,
-        ap (swings os m) (sym (z .2 ∙ ra .2)) ∙ swings-add os m (z .0) (firstCorner vs u) ∙ ap (λ (w : ℕ). swings os w (firstCorner vs u)) e ∙ sym (swings-add os (rb .0) (count u vs) (firstCorner vs u))
+        ap (swings os m) (sym (z .2 ∙ ra .2)) ∙ swings-add os m (z .0) (firstCorner vs u)
+            ∙ ap (λ (w : ℕ). swings os w (firstCorner vs u)) e ∙ sym (swings-add os (rb .0) (count u vs) (firstCorner vs u))
             ∙ ap (swings os (rb .0)) (ring-closes t) ∙ rb .2,
       )

@@ -29,13 +29,15 @@ module _ (vs : List ℕ) (u : ℕ) where
   pub first-at : (c : ℕ) → c < length vs → vertex vs c ≡ u → ((d : ℕ) → d < c → vertex vs d ≢ u) → c ≡ firstCorner vs u
   unfolding firstCorner
   first-at c h e before =
-      least-at other (length vs) c h (λ d l. ap not (ne-eqb (vertex vs d) u (before d l))) (ap not (eq-eqb (vertex vs c) u e))
+      least-at other (length vs) c h (λ d l. ap not (ne-eqb (vertex vs d) u (before d l)))
+      (ap not (eq-eqb (vertex vs c) u e))
 
   pub first-in : 1 ≤ count u vs → (firstCorner vs u < length vs) × (vertex vs (firstCorner vs u) ≡ u)
   unfolding firstCorner
   first-in p = go (decLt (least other (length vs)) (length vs))
     where
-      go : Dec (least other (length vs) < length vs) → (least other (length vs) < length vs) × (vertex vs (least other (length vs)) ≡ u)
+      go : Dec (least other (length vs) < length vs)
+          → (least other (length vs) < length vs) × (vertex vs (least other (length vs)) ≡ u)
       go (yes h) =
           (h, eqb-true (vertex vs (least other (length vs))) u (not-is-false (eqb (vertex vs (least other (length vs))) u) (least-fails other (length vs) h)))
       go (no h) =
@@ -48,7 +50,8 @@ module _ (vs : List ℕ) (u : ℕ) where
     where
       go : Dec (least other (length vs) < length vs) → length vs ≤ least other (length vs)
       go (yes h) =
-          let q = eqb-true (vertex vs (least other (length vs))) u (not-is-false (eqb (vertex vs (least other (length vs))) u) (least-fails other (length vs) h)) in
+          let q = eqb-true (vertex vs (least other (length vs))) u
+          (not-is-false (eqb (vertex vs (least other (length vs))) u) (least-fails other (length vs) h)) in
           absurd (omega (arith, counted u (least other (length vs)) vs h q))
       go (no h) = omega arith
 
@@ -56,14 +59,16 @@ module _ (vs os : List ℕ) (u : ℕ) where
   abbrev met : ℕ → Bool
   met d = not (eqb (vertex vs d) u) || meets os (firstCorner vs u) d
 
-  met-true : (d : ℕ) → (vertex vs d ≡ u → (i : ℕ) × (i < length os) × (swings os i (firstCorner vs u) ≡ d)) → met d ≡ true
+  met-true : (d : ℕ) → (vertex vs d ≡ u → (i : ℕ) × (i < length os) × (swings os i (firstCorner vs u) ≡ d))
+      → met d ≡ true
   unfolding meets
   met-true d f = go (ℕ-discrete (vertex vs d) u)
     where
       go : Dec (vertex vs d ≡ u) → met d ≡ true
       go (yes e) =
           let r = f e in
-          rw (eq-eqb (vertex vs d) u e) (some-true (λ i. eqb (swings os i (firstCorner vs u)) d) (length os) (r .0) (r .1) (eq-eqb (swings os (r .0) (firstCorner vs u)) d (r .2)))
+          rw (eq-eqb (vertex vs d) u e)
+          (some-true (λ i. eqb (swings os i (firstCorner vs u)) d) (length os) (r .0) (r .1) (eq-eqb (swings os (r .0) (firstCorner vs u)) d (r .2)))
       go (no n) = rw (ne-eqb (vertex vs d) u n)
 
   met-one : (d : ℕ) → met d ≡ true → vertex vs d ≡ u → (i : ℕ) × (i < length os) × (swings os i (firstCorner vs u) ≡ d)
@@ -72,10 +77,14 @@ module _ (vs os : List ℕ) (u : ℕ) where
       let r = some-one (λ i. eqb (swings os i (firstCorner vs u)) d) (length os) (rw (eq-eqb (vertex vs d) u e) at t) in
       (r .0, r .1, eqb-true (swings os (r .0) (firstCorner vs u)) d (r .2))
 
-  pub ringed-true : 1 ≤ count u vs → ((d : ℕ) → d < length vs → vertex vs d ≡ u → (i : ℕ) × (i < length os) × (swings os i (firstCorner vs u) ≡ d)) → ringedAt vs os u ≡ true
+  pub ringed-true : 1 ≤ count u vs
+      → ((d : ℕ) → d < length vs → vertex vs d ≡ u → (i : ℕ) × (i < length os) × (swings os i (firstCorner vs u) ≡ d))
+      → ringedAt vs os u ≡ true
   unfolding ringedAt
   ringed-true p f =
-      and-intro (ltb (firstCorner vs u) (length vs)) (all met (length vs)) (lt-ltb (firstCorner vs u) (length vs) (first-in vs u p .0)) (all-true met (length vs) (λ d h. met-true d (f d h)))
+      and-intro (ltb (firstCorner vs u) (length vs)) (all met (length vs))
+      (lt-ltb (firstCorner vs u) (length vs) (first-in vs u p .0))
+      (all-true met (length vs) (λ d h. met-true d (f d h)))
 
   pub ringed-present : ringedAt vs os u ≡ true → 1 ≤ count u vs
   unfolding ringedAt
@@ -83,13 +92,16 @@ module _ (vs os : List ℕ) (u : ℕ) where
     where
       go : Dec (count u vs ≡ 0) → 1 ≤ count u vs
       go (yes e) =
-          let a = ltb-true (firstCorner vs u) (length vs) (and-left (ltb (firstCorner vs u) (length vs)) (all met (length vs)) t) in
+          let a = ltb-true (firstCorner vs u) (length vs)
+          (and-left (ltb (firstCorner vs u) (length vs)) (all met (length vs)) t) in
           absurd (omega (arith, first-none vs u e))
       go (no n) = omega arith
 
-  pub ringed-meets : ringedAt vs os u ≡ true → (d : ℕ) → d < length vs → vertex vs d ≡ u → (i : ℕ) × (i < length os) × (swings os i (firstCorner vs u) ≡ d)
+  pub ringed-meets : ringedAt vs os u ≡ true → (d : ℕ) → d < length vs → vertex vs d ≡ u
+      → (i : ℕ) × (i < length os) × (swings os i (firstCorner vs u) ≡ d)
   unfolding ringedAt
-  ringed-meets t d h e = met-one d (all-each met (length vs) (and-right (ltb (firstCorner vs u) (length vs)) (all met (length vs)) t) d h) e
+  ringed-meets t d h e =
+      met-one d (all-each met (length vs) (and-right (ltb (firstCorner vs u) (length vs)) (all met (length vs)) t) d h) e
 
   pub absent : count u vs ≡ 0 → ringedAt vs os u ≡ false
   absent e = go (ringedAt vs os u) refl

@@ -54,7 +54,8 @@ unfolding previous
 previous-in n c k h = omega arith
 
 pub swing-in : (os : List ℕ) → Pairing os → (c : ℕ) → c < length os → swing (opposite os) c < length os
-swing-in os p c h = next-in (length os) (opposite os (next c)) (p .thirds) (p .inside (next c) (next-in (length os) c (p .thirds) h))
+swing-in os p c h =
+    next-in (length os) (opposite os (next c)) (p .thirds) (p .inside (next c) (next-in (length os) c (p .thirds) h))
 
 module _ {vs os : List ℕ} (s : Surface vs os) where
   pub pairing : Pairing os
@@ -66,7 +67,8 @@ module _ {vs os : List ℕ} (s : Surface vs os) where
 
   pub swing-inj : (a b : ℕ) → swing (opposite os) a ≡ swing (opposite os) b → a ≡ b
   swing-inj a b q =
-      let p : opposite os (next a) ≡ opposite os (next b) = sym (previous-next (opposite os (next a))) ∙ ap previous q ∙ previous-next (opposite os (next b)) in
+      let p : opposite os (next a) ≡ opposite os (next b) = sym (previous-next (opposite os (next a))) ∙ ap previous q
+      ∙ previous-next (opposite os (next b)) in
       let r : next a ≡ next b = sym (s .paired (next a)) ∙ ap (opposite os) p ∙ s .paired (next b) in
       sym (previous-next a) ∙ ap previous r ∙ previous-next b
 
@@ -87,19 +89,23 @@ module _ {vs os : List ℕ} (s : Surface vs os) where
   swings-vertex (suc i) c = swing-vertex (swings os i c) ∙ swings-vertex i c
 
   -- not back in fewer than k swings: all different so far
-  pub swings-apart : (c k : ℕ) → ((j : ℕ) → 0 < j → j < k → swings os j c ≢ c) → (i j : ℕ) → i < j → j < k → swings os i c ≢ swings os j c
+  pub swings-apart : (c k : ℕ) → ((j : ℕ) → 0 < j → j < k → swings os j c ≢ c) → (i j : ℕ) → i < j → j < k
+      → swings os i c ≢ swings os j c
   unfolding iter
   swings-apart c k h zero j p q = λ e. h j p q (sym e)
   swings-apart c k h (suc i) zero p q = absurd (omega arith)
-  swings-apart c k h (suc i) (suc j) p q = λ e. swings-apart c k h i j (omega arith) (omega arith) (swing-inj (swings os i c) (swings os j c) e)
+  swings-apart c k h (suc i) (suc j) p q =
+      λ e. swings-apart c k h i j (omega arith) (omega arith) (swing-inj (swings os i c) (swings os j c) e)
 
   -- back after j swings: no further corner is met
-  pub swings-round : (c j : ℕ) → 0 < j → swings os j c ≡ c → (i : ℕ) → (m : ℕ) × (m < j) × (swings os m c ≡ swings os i c)
+  pub swings-round : (c j : ℕ) → 0 < j → swings os j c ≡ c → (i : ℕ)
+      → (m : ℕ) × (m < j) × (swings os m c ≡ swings os i c)
   unfolding iter
   swings-round c j p e zero = (0, p, refl)
   swings-round c j p e (suc i) = go (swings-round c j p e i)
     where
-      go : (m : ℕ) × (m < j) × (swings os m c ≡ swings os i c) → (m : ℕ) × (m < j) × (swings os m c ≡ swing (opposite os) (swings os i c))
+      go : (m : ℕ) × (m < j) × (swings os m c ≡ swings os i c)
+          → (m : ℕ) × (m < j) × (swings os m c ≡ swing (opposite os) (swings os i c))
       go (m, h, q) = last (ℕ-discrete (suc m) j)
         where
           last : Dec (suc m ≡ j) → (m : ℕ) × (m < j) × (swings os m c ≡ swing (opposite os) (swings os i c))

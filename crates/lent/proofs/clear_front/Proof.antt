@@ -12,7 +12,8 @@ slice-relend-prefix-clear : tie.Need-slice-relend-prefix-clear
 slice-relend-prefix-clear c = search needs
 
 slice-aggregate-clear : tie.Need-slice-aggregate-clear
-slice-aggregate-clear c = sym (length-take-le (c .before .before .args .n) (c .before .before .args .work .now) (c .before .before .pre))
+slice-aggregate-clear c =
+    sym (length-take-le (c .before .before .args .n) (c .before .before .args .work .now) (c .before .before .pre))
 
 clear-requires : tie.Need-clear-requires
 clear-requires c κs = search needs
@@ -23,7 +24,8 @@ same-length c = search needs
 returns : tie.Need-returns
 returns c =
     let s = c .before .before .before .before .before in
-    ap (λ (l : List ℕ). l ++ drop (s .args .n) (s .args .work .now)) (c .before .before .clear .ensures ∙ ap (λ (m : ℕ). replicate m 0) (length-take-le (s .args .n) (s .args .work .now) (s .pre)))
+    ap (λ (l : List ℕ). l ++ drop (s .args .n) (s .args .work .now))
+    (c .before .before .clear .ensures ∙ ap (λ (m : ℕ). replicate m 0) (length-take-le (s .args .n) (s .args .work .now) (s .pre)))
 
 pub clear-front-spec : {M : Type 1} → statement M
 clear-front-spec =

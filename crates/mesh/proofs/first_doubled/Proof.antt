@@ -25,7 +25,8 @@ apart-at-requires c κs = search needs
 returns : tie.Need-returns Inv-loop μ-loop
 returns c =
     let a = c .before .before .before .before .before .args in
-    scan-stop (apartAt (a .vs .now)) (length (a .vs .now) / 3) _ (c .before .before .before .loop .inv .1) (c .before .before .loop-test .taken)
+    scan-stop (apartAt (a .vs .now)) (length (a .vs .now) / 3) _ (c .before .before .before .loop .inv .1)
+    (c .before .before .loop-test .taken)
     (sym (c .before .apart-at .ensures) ∙ not-true _ (c .if1 .taken))
 
 add-k : tie.Need-add-k Inv-loop μ-loop
@@ -42,7 +43,8 @@ loop-again c =
 returns-2 : tie.Need-returns-2 Inv-loop μ-loop
 returns-2 c =
     let a = c .before .before .before .args in
-    scan-end (apartAt (a .vs .now)) (length (a .vs .now) / 3) _ (c .before .loop .inv .1) (c .before .loop .inv .0) (c .loop-test .left)
+    scan-end (apartAt (a .vs .now)) (length (a .vs .now) / 3) _ (c .before .loop .inv .1) (c .before .loop .inv .0)
+    (c .loop-test .left)
 
 pub first-doubled-spec : {M : Type 1} → statement M
 first-doubled-spec =

@@ -27,7 +27,8 @@ shared-slice-read-if1 c = search needs
 returns : tie.Need-returns Inv-loop μ-loop
 returns c =
     let a = c .before .before .before .before .args in
-    scan-stop (belowAt (a .vs .now) (a .v)) (length (a .vs .now)) _ (c .before .before .before .loop .inv .1) (c .before .before .loop-test .taken)
+    scan-stop (belowAt (a .vs .now) (a .v)) (length (a .vs .now)) _ (c .before .before .before .loop .inv .1)
+    (c .before .before .loop-test .taken)
     (below-off (a .vs .now) (a .v) _ (c .if1 .taken))
 
 add-c : tie.Need-add-c Inv-loop μ-loop
@@ -44,7 +45,8 @@ loop-again c =
 returns-2 : tie.Need-returns-2 Inv-loop μ-loop
 returns-2 c =
     let a = c .before .before .args in
-    scan-end (belowAt (a .vs .now) (a .v)) (length (a .vs .now)) _ (c .before .loop .inv .1) (c .before .loop .inv .0) (c .loop-test .left)
+    scan-end (belowAt (a .vs .now) (a .v)) (length (a .vs .now)) _ (c .before .loop .inv .1) (c .before .loop .inv .0)
+    (c .loop-test .left)
 
 pub first-over-spec : {M : Type 1} → statement M
 first-over-spec =

@@ -26,7 +26,8 @@ shared-slice-read-if1 c = search needs
 returns : tie.Need-returns Inv-loop μ-loop
 returns c =
     let a = c .before .before .before .before .args in
-    scan-stop (marked (a .work .now)) (a .t) _ (c .before .before .before .loop .inv .1) (c .before .before .loop-test .taken) (mark-off (a .work .now) _ (c .if1 .taken))
+    scan-stop (marked (a .work .now)) (a .t) _ (c .before .before .before .loop .inv .1)
+    (c .before .before .loop-test .taken) (mark-off (a .work .now) _ (c .if1 .taken))
 
 add-k : tie.Need-add-k Inv-loop μ-loop
 add-k c = search needs

@@ -25,7 +25,8 @@ paired-at-requires c κs = search needs
 returns : tie.Need-returns Inv-loop μ-loop
 returns c =
     let a = c .before .before .before .before .before .args in
-    scan-stop (pairedAt (a .os .now)) (length (a .os .now)) _ (c .before .before .before .loop .inv .1) (c .before .before .loop-test .taken)
+    scan-stop (pairedAt (a .os .now)) (length (a .os .now)) _ (c .before .before .before .loop .inv .1)
+    (c .before .before .loop-test .taken)
     (sym (c .before .paired-at .ensures) ∙ not-true _ (c .if1 .taken))
 
 add-c : tie.Need-add-c Inv-loop μ-loop
@@ -42,7 +43,8 @@ loop-again c =
 returns-2 : tie.Need-returns-2 Inv-loop μ-loop
 returns-2 c =
     let a = c .before .before .before .args in
-    scan-end (pairedAt (a .os .now)) (length (a .os .now)) _ (c .before .loop .inv .1) (c .before .loop .inv .0) (c .loop-test .left)
+    scan-end (pairedAt (a .os .now)) (length (a .os .now)) _ (c .before .loop .inv .1) (c .before .loop .inv .0)
+    (c .loop-test .left)
 
 pub first-unpaired-spec : {M : Type 1} → statement M
 first-unpaired-spec =

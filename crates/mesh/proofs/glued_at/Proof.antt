@@ -23,7 +23,8 @@ returns : tie.Need-returns
 returns c =
     let a = c .before .before .before .before .before .before .args in
     let d = c .before .before .before .opposite-of .ensures .0 in
-    ends-off (a .vs .now) (a .os .now) (a .c) _ _ _ d (c .before .before .vertex-next .ensures) (c .before .vertex-previous .ensures) (c .if1 .taken)
+    ends-off (a .vs .now) (a .os .now) (a .c) _ _ _ d (c .before .before .vertex-next .ensures)
+    (c .before .vertex-previous .ensures) (c .if1 .taken)
 
 vertex-previous-requires-2 : tie.Need-vertex-previous-requires-2
 vertex-previous-requires-2 c κs = search needs
@@ -39,7 +40,8 @@ returns-2 c =
     let first = c .before .before in
     let a = first .before .before .before .before .before .before .args in
     let d = first .before .before .before .opposite-of .ensures .0 in
-    ends-on (a .vs .now) (a .os .now) (a .c) _ _ _ d (first .before .before .vertex-next .ensures) (first .before .vertex-previous .ensures)
+    ends-on (a .vs .now) (a .os .now) (a .c) _ _ _ d (first .before .before .vertex-next .ensures)
+    (first .before .vertex-previous .ensures)
     (first .if1 .left) _ _ (c .before .vertex-previous2 .ensures) (c .vertex-next2 .ensures)
 
 pub glued-at-spec : {M : Type 1} → statement M

@@ -20,7 +20,8 @@ returns c =
     let s = one .before .before .before .before in
     let a = s .args in
     let shape = shape-of (a .vs .now) (a .os .now) (s .pre .0) in
-    gate-stops (a .vs .now) (a .os .now) (a .v) (a .g) shape _ (one .wide .ensures) (c .before .if1 .taken) _ (c .refuse .ensures)
+    gate-stops (a .vs .now) (a .os .now) (a .v) (a .g) shape _ (one .wide .ensures) (c .before .if1 .taken) _
+    (c .refuse .ensures)
 
 first-over-requires : tie.Need-first-over-requires
 first-over-requires c κs = search needs
@@ -189,7 +190,8 @@ returns-6 c =
     (two .before .if1 .left) _ (two .first-over .ensures)
     (three .before .if2 .left) _ (three .first-unpaired .ensures)
     (four .before .if3 .left) _ (four .first-unglued .ensures)
-    (five .before .if4 .left) _ (five .first-doubled .ensures) (c .before .before .before .before .if5 .left) _ (c .before .before .judge-whole .ensures)
+    (five .before .if4 .left) _ (five .first-doubled .ensures) (c .before .before .before .before .if5 .left) _
+    (c .before .before .judge-whole .ensures)
 
 pub judge-mesh-spec : {M : Type 1} → statement M
 judge-mesh-spec =

@@ -20,7 +20,8 @@ returns : tie.Need-returns
 returns c =
     let one = c .before .before .before .before in
     let a = one .before .before .before .before .before .args in
-    ring-stops (a .vs .now) (a .os .now) (a .v) (a .g) _ (one .first-unringed .ensures) (c .before .if1 .taken) _ (c .refuse .ensures)
+    ring-stops (a .vs .now) (a .os .now) (a .v) (a .g) _ (one .first-unringed .ensures) (c .before .if1 .taken) _
+    (c .refuse .ensures)
 
 wide-requires : tie.Need-wide-requires
 wide-requires c κs = search needs
@@ -47,8 +48,10 @@ returns-2 c =
     let one = two .before .before .before .before .before .before in
     let s = one .before .before .before .before .before in
     let a = s .args in
-    unreached-stops (a .vs .now) (a .os .now) (a .v) (a .g) _ (one .first-unringed .ensures) (two .before .before .before .if1 .left) (s .pre .0 .same)
-    _ (two .before .before .wide .ensures) _ (two .first-unreached .ensures) (c .before .if2 .taken) _ (c .refuse2 .ensures)
+    unreached-stops (a .vs .now) (a .os .now) (a .v) (a .g) _ (one .first-unringed .ensures)
+    (two .before .before .before .if1 .left) (s .pre .0 .same)
+    _ (two .before .before .wide .ensures) _ (two .first-unreached .ensures) (c .before .if2 .taken) _
+    (c .refuse2 .ensures)
 
 add-if3 : tie.Need-add-if3
 add-if3 c = search needs
@@ -71,8 +74,10 @@ returns-3 c =
     let one = two .before .before .before .before .before .before in
     let s = one .before .before .before .before .before in
     let a = s .args in
-    euler-stops (a .vs .now) (a .os .now) (a .v) (a .g) _ (one .first-unringed .ensures) (two .before .before .before .if1 .left) (s .pre .0 .same)
-    _ (two .before .before .wide .ensures) _ (two .first-unreached .ensures) (c .before .before .before .if2 .left) _ (c .before .before .wide2 .ensures)
+    euler-stops (a .vs .now) (a .os .now) (a .v) (a .g) _ (one .first-unringed .ensures)
+    (two .before .before .before .if1 .left) (s .pre .0 .same)
+    _ (two .before .before .wide .ensures) _ (two .first-unreached .ensures) (c .before .before .before .if2 .left) _
+    (c .before .before .wide2 .ensures)
     (c .before .if3 .taken) _ (c .refuse3 .ensures)
 
 cast-accept : tie.Need-cast-accept
@@ -90,8 +95,10 @@ returns-4 c =
     let one = two .before .before .before .before .before .before in
     let s = one .before .before .before .before .before in
     let a = s .args in
-    all-passed (a .vs .now) (a .os .now) (a .v) (a .g) _ (one .first-unringed .ensures) (two .before .before .before .if1 .left) (s .pre .0 .same)
-    _ (two .before .before .wide .ensures) _ (two .first-unreached .ensures) (c .before .before .before .if2 .left) _ (c .before .before .wide2 .ensures)
+    all-passed (a .vs .now) (a .os .now) (a .v) (a .g) _ (one .first-unringed .ensures)
+    (two .before .before .before .if1 .left) (s .pre .0 .same)
+    _ (two .before .before .wide .ensures) _ (two .first-unreached .ensures) (c .before .before .before .if2 .left) _
+    (c .before .before .wide2 .ensures)
     (c .before .if3 .left) _ (c .accept .ensures)
 
 pub judge-whole-spec : {M : Type 1} → statement M

@@ -25,7 +25,8 @@ loop-holds c =
     let s = c .before .before .before .before .before .before in
     let a = s .args in
     let call = c .before .before .meet in
-    begun (a .t) (a .os .now) (a .a) (a .work .now) _ _ _ (s .pre .1) (s .pre .4) refl (call .ensures .1) (call .kept .0) (call .ensures .2)
+    begun (a .t) (a .os .now) (a .a) (a .work .now) _ _ _ (s .pre .1) (s .pre .4) refl (call .ensures .1)
+    (call .kept .0) (call .ensures .2)
 
 spread-at-requires : tie.Need-spread-at-requires Inv-loop μ-loop
 spread-at-requires c κs =
@@ -44,7 +45,8 @@ loop-less c =
     let s = first .before .before .before .before in
     let a = s .args in
     let big : a .t + a .t + 3 ≤ length (first .meet .last .0) = omega (arith, first .meet .kept .0) in
-    fewer (a .t) (a .os .now) (a .a) _ _ _ (s .pre .0) big (call .before .before .before .loop .inv) (call .before .before .loop-test .taken) _ (call .spread-at .result) (call .spread-at .ensures .2)
+    fewer (a .t) (a .os .now) (a .a) _ _ _ (s .pre .0) big (call .before .before .before .loop .inv)
+    (call .before .before .loop-test .taken) _ (call .spread-at .result) (call .spread-at .ensures .2)
 
 loop-again : tie.Need-loop-again Inv-loop μ-loop
 loop-again c =
@@ -53,7 +55,8 @@ loop-again c =
     let s = first .before .before .before .before in
     let a = s .args in
     let big : a .t + a .t + 3 ≤ length (first .meet .last .0) = omega (arith, first .meet .kept .0) in
-    again (a .t) (a .os .now) (a .a) _ _ _ (s .pre .0) big (call .before .before .before .loop .inv) (call .before .before .loop-test .taken) _ _
+    again (a .t) (a .os .now) (a .a) _ _ _ (s .pre .0) big (call .before .before .before .loop .inv)
+    (call .before .before .loop-test .taken) _ _
     (call .spread-at .kept .1 .0) (call .spread-at .ensures .1) (call .spread-at .ensures .2)
 
 same-length : tie.Need-same-length Inv-loop μ-loop

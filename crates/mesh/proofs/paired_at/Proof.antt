@@ -32,13 +32,15 @@ returns-2 : tie.Need-returns-2
 returns-2 c =
     let s = c .before .before .before .before .before .before .before in
     let first = c .before .before .before in
-    pairs-in (s .args .os .now) (s .args .c) _ (s .pre) (first .before .wide .ensures) (first .if1 .left) _ (c .before .wide2 .ensures) (c .if2 .taken)
+    pairs-in (s .args .os .now) (s .args .c) _ (s .pre) (first .before .wide .ensures) (first .if1 .left) _
+    (c .before .wide2 .ensures) (c .if2 .taken)
 
 returns-3 : tie.Need-returns-3
 returns-3 c =
     let s = c .before .before .before .before .before .before .before in
     let first = c .before .before .before in
-    pairs-off (s .args .os .now) (s .args .c) _ (s .pre) (first .before .wide .ensures) (first .if1 .left) _ (c .before .wide2 .ensures) (c .if2 .left)
+    pairs-off (s .args .os .now) (s .args .c) _ (s .pre) (first .before .wide .ensures) (first .if1 .left) _
+    (c .before .wide2 .ensures) (c .if2 .left)
 
 pub paired-at-spec : {M : Type 1} → statement M
 paired-at-spec =

@@ -9,7 +9,9 @@ returns : tie.Need-returns
 returns c = let a = c .before .before .before .args in shape-same (a .vs .now) (a .os .now) (c .if1 .taken)
 
 returns-2 : tie.Need-returns-2
-returns-2 c = let a = c .before .before .before .before .args in shape-thirds (a .vs .now) (a .os .now) (c .before .if1 .left) (c .if2 .taken)
+returns-2 c =
+    let a = c .before .before .before .before .args in
+    shape-thirds (a .vs .now) (a .os .now) (c .before .if1 .left) (c .if2 .taken)
 
 count-ok-requires : tie.Need-count-ok-requires
 count-ok-requires c κs = search needs

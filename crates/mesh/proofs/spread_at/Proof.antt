@@ -57,8 +57,10 @@ returns c =
     let s = first .before .before .before .before .before .before .before in (
       omega arith,
       omega arith,
-      spread-same (s .args .os .now) _ _ _ _ _ _ _ _ _ (first .before .before .before .wide .ensures) (first .before .beyond .ensures)
-          (second .before .beyond2 .ensures) (third .before .beyond3 .ensures) (first .meet .ensures .2) (second .meet2 .ensures .2) (third .meet3 .ensures .2),
+      spread-same (s .args .os .now) _ _ _ _ _ _ _ _ _ (first .before .before .before .wide .ensures)
+          (first .before .beyond .ensures)
+          (second .before .beyond2 .ensures) (third .before .beyond3 .ensures) (first .meet .ensures .2)
+          (second .meet2 .ensures .2) (third .meet3 .ensures .2),
     )
 
 pub spread-at-spec : {M : Type 1} → statement M

@@ -16,12 +16,15 @@ swing-of-requires : tie.Need-swing-of-requires Inv-loop μ-loop
 swing-of-requires c κs = let s = c .before in omega (arith, s .pre .0 .thirds, s .pre .1)
 
 loop-holds : tie.Need-loop-holds Inv-loop μ-loop
-loop-holds c = let s = c .before .before in swing-start (s .args .os .now) (s .args .c) (s .pre .0) (s .pre .1) _ (c .swing-of .ensures)
+loop-holds c =
+    let s = c .before .before in
+    swing-start (s .args .os .now) (s .args .c) (s .pre .0) (s .pre .1) _ (c .swing-of .ensures)
 
 returns : tie.Need-returns Inv-loop μ-loop
 returns c =
     let a = c .before .before .before .before .before .args in
-    swing-stop (a .os .now) (a .c) _ _ (c .before .before .loop .inv) (a .k) (c .before .loop-test .taken) (c .if1 .taken)
+    swing-stop (a .os .now) (a .c) _ _ (c .before .before .loop .inv) (a .k) (c .before .loop-test .taken)
+    (c .if1 .taken)
 
 swing-of-requires-2 : tie.Need-swing-of-requires-2 Inv-loop μ-loop
 swing-of-requires-2 c κs =
@@ -37,7 +40,8 @@ loop-less c = search needs
 loop-again : tie.Need-loop-again Inv-loop μ-loop
 loop-again c =
     let s = c .before .before .before .before .before .before in
-    swing-turn (s .args .os .now) (s .args .c) _ _ (c .before .before .before .loop .inv) (s .pre .0) (c .before .if1 .left) _ (c .swing-of2 .ensures)
+    swing-turn (s .args .os .now) (s .args .c) _ _ (c .before .before .before .loop .inv) (s .pre .0)
+    (c .before .if1 .left) _ (c .swing-of2 .ensures)
 
 returns-2 : tie.Need-returns-2 Inv-loop μ-loop
 returns-2 c =

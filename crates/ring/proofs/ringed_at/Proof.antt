@@ -43,7 +43,8 @@ returns-2 : tie.Need-returns-2
 returns-2 c =
     let s = c .before .before .before .before .before .before .before .before in
     let a = s .args in
-    ring-same (a .vs .now) (a .os .now) (a .work .now) (a .u) (s .pre .0) (s .pre .1) (s .pre .3) (c .before .before .before .if1 .left) _
+    ring-same (a .vs .now) (a .os .now) (a .work .now) (a .u) (s .pre .0) (s .pre .1) (s .pre .3)
+    (c .before .before .before .if1 .left) _
     (c .away-for .ensures ∙ ap (λ (d : ℕ). awayFor (a .os .now) d (getD (a .work .now) (a .u) 0)) (c .before .wide .ensures))
 
 pub ringed-at-spec : {M : Type 1} → statement M

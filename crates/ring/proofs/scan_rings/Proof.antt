@@ -26,7 +26,8 @@ wide-requires c κs = search needs
 returns : tie.Need-returns Inv-loop μ-loop
 returns c =
     let a = c .before .before .before .before .before .before .before .args in
-    rings-full (a .vs .now) (a .os .now) (a .v) _ (c .before .before .before .loop .inv) (c .before .before .loop-test .taken)
+    rings-full (a .vs .now) (a .os .now) (a .v) _ (c .before .before .before .loop .inv)
+    (c .before .before .loop-test .taken)
     (omega (arith, c .before .wide .ensures, c .if1 .taken))
 
 ringed-at-requires : tie.Need-ringed-at-requires Inv-loop μ-loop
@@ -37,7 +38,8 @@ returns-2 c =
     let a = c .before .before .before .before .before .before .before .before .before .args in
     let at-u = ap (ringedAt (a .vs .now) (a .os .now)) (sym (c .before .before .before .wide .ensures)) in
     scan-stop (ringedAt (a .vs .now) (a .os .now)) (a .v) _ (c .before .before .before .before .before .loop .inv)
-    (c .before .before .before .before .loop-test .taken) (at-u ∙ sym (c .before .ringed-at .ensures) ∙ not-true _ (c .if2 .taken))
+    (c .before .before .before .before .loop-test .taken)
+    (at-u ∙ sym (c .before .ringed-at .ensures) ∙ not-true _ (c .if2 .taken))
 
 add-u : tie.Need-add-u Inv-loop μ-loop
 add-u c = search needs

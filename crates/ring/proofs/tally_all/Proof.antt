@@ -16,7 +16,9 @@ abbrev μ-loop : tie.MeasureT-loop
 μ-loop vs work₀ c₀ work c = c
 
 loop-holds : tie.Need-loop-holds Inv-loop μ-loop
-loop-holds c = let s = c .before .before in (omega arith, refl, tally-start (s .args .vs .now) (s .args .work .now) (s .pre .2))
+loop-holds c =
+    let s = c .before .before in
+    (omega arith, refl, tally-start (s .args .vs .now) (s .args .work .now) (s .pre .2))
 
 sub-c : tie.Need-sub-c Inv-loop μ-loop
 sub-c c = search needs
