@@ -1,0 +1,43 @@
+-- The demands as promises of functions: what a demand's sentence says of the answers and tables that came out.
+--
+--   Returned      reading a string and writing it from corner 0 returns that string
+--   ReadBack      writing a mesh and reading it returns the mesh, renumbered by the walk table
+--   Compared      strings are equal exactly when a renumbering exists; then the two walk tables show it
+use mathlib.Core.Bool.{Bool, true}
+use mathlib.Core.List.{List, _++_}
+use mathlib.Core.Path.{_≡_}
+use Prim.Native.Nat.{_/_, _<_, _≤_, ℕ}
+use lib.ListN.{drop, length}
+use Rattle.theory.proofs.WordSteps.{tipCorners}
+use Rattle.theory.specs.Corner.{opposite, vertex}
+use Rattle.theory.specs.Renumber.{Renumbering, byWalk}
+use Rattle.theory.specs.Walk.{walk}
+use Rattle.theory.specs.declared.Answer.{Answer}
+use denote.Ref.{name}
+
+-- s was read with answer a and its tables were written with answer b into letters and walk
+pub record Returned (s letters walk : List ℕ) (a b : Answer) (letters′ walk′ : List ℕ) : Type 0 where
+  pub returns : a .number ≡ 0 → length s ≤ length letters → length s ≤ length walk
+      → (b ≡ a) × (letters′ ≡ s ++ drop (length s) letters) × (walk′ ≡ tipCorners (length s) ++ drop (length s) walk)
+
+-- the mesh was written with answer a, cs being the walk table, and its string was read with answer b into vs′ and os′
+pub record ReadBack (vs os : List ℕ) (v g : ℕ) (vs₀ os₀ : List ℕ) (a b : Answer) (walk′ vs′ os′ : List ℕ) : Type 0 where
+  pub returns : a .number ≡ 0 → length vs ≤ length vs₀ → length os ≤ length os₀
+      → (b ≡ a) × ((name : ℕ → ℕ)
+      × Renumbering (vertex vs′) (opposite os′) (vertex vs) (opposite os) (length vs / 3) v 0 g (byWalk walk′) name)
+
+-- two meshes were written with answers a and b, and their strings compared
+pub record Compared (vs os : List ℕ) (v g : ℕ) (vs′ os′ : List ℕ) (v′ g′ : ℕ) (a b : Answer) (same : Bool) (walk walk′ : List ℕ) : Type 0 where
+  -- equal strings: one mesh but for its numbers, by the two walk tables
+  pub shown : a .number ≡ 0 → b .number ≡ 0 → same ≡ true
+      → (length vs ≡ length vs′) × (v ≡ v′) × ((h : ℕ → ℕ) × (n : ℕ → ℕ)
+      × Renumbering (vertex vs) (opposite os) (vertex vs′) (opposite os′) (length vs / 3) v g g′ h n
+      × ((x : ℕ) → x < length vs → h (byWalk walk x) ≡ byWalk walk′ x))
+  -- a renumbering: equal strings
+  pub found : a .number ≡ 0 → b .number ≡ 0 → length vs ≡ length vs′ → (h n : ℕ → ℕ)
+      → Renumbering (vertex vs) (opposite os) (vertex vs′) (opposite os′) (length vs / 3) v g g′ h n → same ≡ true
+  -- and there is no other
+  pub only : a .number ≡ 0 → b .number ≡ 0 → length vs ≡ length vs′ → (h n k m : ℕ → ℕ)
+      → Renumbering (vertex vs) (opposite os) (vertex vs′) (opposite os′) (length vs / 3) v g g′ h n
+      → Renumbering (vertex vs) (opposite os) (vertex vs′) (opposite os′) (length vs / 3) v g g′ k m
+      → ((c : ℕ) → c < length vs → h c ≡ k c) × ((u : ℕ) → u < v → n u ≡ m u)
