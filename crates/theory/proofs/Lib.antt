@@ -70,4 +70,5 @@ pub mod RoundTrip
 pub mod CarriedWalk
 pub mod Renumbered
 pub mod MeshStrings
+pub mod CallsDone
 pub mod Marked

@@ -1,6 +1,7 @@
 -- What the mesh check means: done is answered exactly for an accepted mesh.
 --
 --   accepted accepts          `meshAnswer`, where what is lent is long enough
+--   mesh-fits                         done only where what is lent is long enough
 --   judged-accepted judged-accepts    the same for the checks 8 to 15 alone, of tables of a right shape
 use mathlib.Core.Bool.{Bool, true}
 use mathlib.Core.List.{List, _∷_}
@@ -135,3 +136,10 @@ module _ (vs os : List ℕ) (v g : ℕ) where
   accepts a =
       passed-done (whole 1 (shapeOk vs os) ∷ roomRung true ∷ meshRungs vs os v g) (done (length vs / 3) v)
       (whole-passes 1 (shapeOk vs os) (a .shape), (whole-passes 2 true refl, accepted-passed a))
+
+  pub mesh-fits : (fits : Bool) → meshAnswer vs os v g fits .number ≡ 0 → fits ≡ true
+  unfolding meshAnswer
+  mesh-fits fits e =
+      let p = done-passed (whole 1 (shapeOk vs os) ∷ roomRung fits ∷ meshRungs vs os v g) (done (length vs / 3) v)
+            (omega arith, (omega arith, named)) e in
+      passes-whole 2 fits (p .1 .0)
