@@ -7,7 +7,7 @@ use mathlib.Core.Bool.{Bool, true}
 use mathlib.Core.List.{List, _++_}
 use mathlib.Core.Path.{_≡_}
 use Prim.Native.Nat.{_/_, _<_, _≤_, ℕ}
-use lib.ListN.{drop, length}
+use lib.ListN.{drop, length, take}
 use Rattle.theory.proofs.WordSteps.{tipCorners}
 use Rattle.theory.specs.Corner.{opposite, vertex}
 use Rattle.theory.specs.Renumber.{Renumbering, byWalk}
@@ -20,11 +20,12 @@ pub record Returned (s letters walk : List ℕ) (a b : Answer) (letters′ walk�
   pub returns : a .number ≡ 0 → length s ≤ length letters → length s ≤ length walk
       → (b ≡ a) × (letters′ ≡ s ++ drop (length s) letters) × (walk′ ≡ tipCorners (length s) ++ drop (length s) walk)
 
--- the mesh was written with answer a, cs being the walk table, and its string was read with answer b into vs′ and os′
-pub record ReadBack (vs os : List ℕ) (v g : ℕ) (vs₀ os₀ : List ℕ) (a b : Answer) (walk′ vs′ os′ : List ℕ) : Type 0 where
+-- the mesh was written with answer a, and its string was read with answer b into vs′ and os′, lent as vs₀ and os₀
+pub record ReadBack (vs os : List ℕ) (v g : ℕ) (vs₀ os₀ : List ℕ) (a b : Answer) (walk vs′ os′ : List ℕ) : Type 0 where
   pub returns : a .number ≡ 0 → length vs ≤ length vs₀ → length os ≤ length os₀
       → (b ≡ a) × ((name : ℕ → ℕ)
-      × Renumbering (vertex vs′) (opposite os′) (vertex vs) (opposite os) (length vs / 3) v 0 g (byWalk walk′) name)
+      × Renumbering (vertex (take (length vs) vs′)) (opposite (take (length os) os′)) (vertex vs) (opposite os)
+        (length vs / 3) v 0 g (byWalk (take (length vs / 3) walk)) name)
 
 -- two meshes were written with answers a and b, and their strings compared
 pub record Compared (vs os : List ℕ) (v g : ℕ) (vs′ os′ : List ℕ) (v′ g′ : ℕ) (a b : Answer) (same : Bool) (walk walk′ : List ℕ) : Type 0 where
@@ -32,7 +33,7 @@ pub record Compared (vs os : List ℕ) (v g : ℕ) (vs′ os′ : List ℕ) (v�
   pub shown : a .number ≡ 0 → b .number ≡ 0 → same ≡ true
       → (length vs ≡ length vs′) × (v ≡ v′) × ((h : ℕ → ℕ) × (n : ℕ → ℕ)
       × Renumbering (vertex vs) (opposite os) (vertex vs′) (opposite os′) (length vs / 3) v g g′ h n
-      × ((x : ℕ) → x < length vs → h (byWalk walk x) ≡ byWalk walk′ x))
+      × ((x : ℕ) → x < length vs → h (byWalk (take (length vs / 3) walk) x) ≡ byWalk (take (length vs / 3) walk′) x))
   -- a renumbering: equal strings
   pub found : a .number ≡ 0 → b .number ≡ 0 → length vs ≡ length vs′ → (h n : ℕ → ℕ)
       → Renumbering (vertex vs) (opposite os) (vertex vs′) (opposite os′) (length vs / 3) v g g′ h n → same ≡ true

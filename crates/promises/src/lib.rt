@@ -30,3 +30,26 @@ pub fn read_write(
     let b = write_string(&vs[..n], &os[..n], a.v, 0, letters, walk, work);
     Both { first: a, second: b }
 }
+
+// Demand 2: writing a mesh and reading it returns the mesh, renumbered by the walk table.
+pub fn write_read(
+    vs: &[u32],
+    os: &[u32],
+    v: u32,
+    gate: u32,
+    letters: &mut [u8],
+    walk: &mut [u32],
+    vs2: &mut [u32],
+    os2: &mut [u32],
+    work: &mut [u32],
+) -> Both
+    ensures { λ r. ⌜ ReadBack (now (vs .entry)) (now (os .entry)) v gate (now (vs2 .entry)) (now (os2 .entry)) (r .first) (r .second) (now (walk .exit)) (now (vs2 .exit)) (now (os2 .exit)) ⌝ }
+{
+    let a = write_string(vs, os, v, gate, letters, walk, work);
+    if a.number != 0 {
+        return Both { first: a, second: a };
+    }
+    let t = vs.len() / 3;
+    let b = read_string(&letters[..t], vs2, os2, work);
+    Both { first: a, second: b }
+}
