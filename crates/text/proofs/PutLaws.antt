@@ -3,7 +3,7 @@
 --   length-put     the buffer keeps its length
 --   put-append     one text behind another
 --   put-last       the last byte first
---   put-none       nothing
+--   put-none       nothing; put-start: from the very start
 --   put-paste      as a copy of a whole text
 --   wrote-append   one writer after another; wrote-room: the room that is left for the second
 use mathlib.Core.List.{List, [], _++_, _∷_, append-assoc}
@@ -133,3 +133,10 @@ module _ (l : List ℕ) (at : ℕ) (a b c d : List ℕ) (h : at + length (a ++ b
 
         pub four-done : {l4 : List ℕ} {p4 : ℕ} → Wrote l3 p3 d l4 p4 → Wrote l at (a ++ b ++ c ++ d) l4 p4
         four-done {l4} {p4} w4 = wrote-append l at (a ++ b ++ c) d h l3 p3 (three-done l at a b c abc w1 w2 w3) l4 p4 w4
+
+-- from the very start
+pub put-start : (out s : List ℕ) → put out 0 s ≡ s ++ drop (length s) out
+unfolding put
+put-start out s =
+    let q : 0 + length s ≡ length s = omega arith in
+    rw q
