@@ -6,3 +6,5 @@ pub mod HeadSteps
 pub mod Accepted
 pub mod OpenLaws
 pub mod PackLaws
+pub mod Written
+pub mod RoundTrip
