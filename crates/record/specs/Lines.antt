@@ -13,7 +13,6 @@ use lib.ListN.{getD, length}
 use Rattle.record.specs.Record.{formKey, gateKey, symKey, triKey}
 use Rattle.text.specs.Line.{after, isKeyed, numberLine, valueOf}
 use Rattle.text.specs.declared.NumberLine.{NumberLine}
-use Rattle.theory.proofs.Counting.{count}
 use Rattle.theory.specs.Answer.{Rung, countRung, each, whole}
 
 abbrev pub after1 : List ℕ → List ℕ
@@ -52,8 +51,8 @@ wellFormedAt text i = getD (lineTests text) i true
 
 -- 17, 1, 8 and 18, for a form, t, a gate and how many letters there are
 abbrev pub valueRungs : ℕ → ℕ → ℕ → ℕ → List Rung
-valueRungs form t gate count =
-    whole 17 (eqb form 1) ∷ countRung t ∷ whole 8 (ltb gate (3 * t)) ∷ whole 18 (eqb count t) ∷ []
+valueRungs form t gate many =
+    whole 17 (eqb form 1) ∷ countRung t ∷ whole 8 (ltb gate (3 * t)) ∷ whole 18 (eqb many t) ∷ []
 
 abbrev pub headRungs : List ℕ → List Rung
 headRungs text =
