@@ -12,7 +12,7 @@ use native.Mathlib.Omega.{arith}
 use lib.Dec.{leb, ltb}
 use lib.ListN.{drop, getD, length, take}
 use lib.Seq.{take-append-seam}
-use borrow.Author.Tests.{le-leb, lt-ltb, ltb-true, ne-eqb}
+use borrow.Author.Tests.{le-leb, leb-true, lt-ltb, ltb-true, ne-eqb}
 use Rattle.record.proofs.Accepted.{Good, good-of, good-passes, lines-text}
 use Rattle.record.proofs.RungLaws.{firstBroken-append, none-stops, zero-passed, zero-whole}
 use Rattle.record.proofs.Written.{Packable, text-gate, text-good, text-letters}
@@ -27,9 +27,10 @@ use Rattle.theory.proofs.CallLaws.{EachRung, filled-done}
 use Rattle.theory.proofs.Counting.{count}
 use Rattle.theory.proofs.LeastLaws.{least-below}
 use Rattle.theory.proofs.Opens.{opens}
-use Rattle.theory.proofs.TestLaws.{not-both}
+use Rattle.theory.proofs.TestLaws.{and-left, not-both}
+use Rattle.theory.proofs.WordTables.{good}
 use Rattle.theory.specs.Answer.{countOk, each, firstBroken, roomRung}
-use Rattle.theory.specs.Judge.{letterRungs, stringDone}
+use Rattle.theory.specs.Judge.{letterAnswer, letterRungs, stringDone}
 use Rattle.theory.specs.Letter.{isLetter, letter}
 use Rattle.theory.specs.Tables.{tableO, tableV}
 use Rattle.theory.specs.Word.{wordOf}
@@ -150,13 +151,27 @@ module _ (text vs os work : List ℕ) (r : Opened) (vs′ os′ work′ : List �
   pub read-good : Good text
   read-good = good-of text behind-head split-zero
 
-  read-letters : firstBroken (letterRungs (letters text)) (stringDone (letters text)) .number ≡ 0
+  past-head : (lent ≡ true) × (firstBroken (letterRungs (letters text)) (stringDone (letters text)) .number ≡ 0)
   unfolding behind-head
-  read-letters =
+  past-head =
       zero-whole 2 lent (letterRungs (letters text)) (stringDone (letters text)) (λ e. omega arith)
-      (ap (λ (x : Answer). x .number) (sym (good-passes text read-good behind-head)) ∙ split-zero) .1
+      (ap (λ (x : Answer). x .number) (sym (good-passes text read-good behind-head)) ∙ split-zero)
 
-  read-gate : r .gate ≡ gateLine text .value
+  pub read-fits : 3 * length (letters text) ≤ length vs
+  read-fits = leb-true (3 * length (letters text)) (length vs) (and-left _ _ (past-head .0))
+
+  pub read-letters : letterAnswer (letters text) .number ≡ 0
+  unfolding letterAnswer
+  read-letters = past-head .1
+
+  pub read-done : openAnswer text (length vs) (length os) (length work) ≡ stringDone (letters text)
+  unfolding openAnswer textAnswer
+  read-done =
+      firstBroken-append (headRungs text) _ (stringDone (letters text)) ∙ good-passes text read-good _
+      ∙ whole-passed 2 lent (letterRungs (letters text)) (stringDone (letters text)) (past-head .0)
+      ∙ none-stops (letterRungs (letters text)) (stringDone (letters text)) (stringDone (letters text)) (letters-numbered (letters text)) (past-head .1)
+
+  pub read-gate : r .gate ≡ gateLine text .value
   unfolding opened
   read-gate = ap (λ (x : Opened). x .gate) (opens .answer) ∙ rw opened-zero
 
@@ -176,7 +191,7 @@ module _ (text vs os work : List ℕ) (r : Opened) (vs′ os′ work′ : List �
       whole-passed 1 (countOk (length (letters text))) _ (stringDone (letters text)) (ap countOk (read-good .enough) ∙ read-good .count)
       ∙ whole-passed 8 (ltb (r .gate) (3 * length (letters text))) _ (stringDone (letters text)) (lt-ltb (r .gate) (3 * length (letters text)) corner)
       ∙ whole-passed 2 _ (letterRungs (letters text)) (stringDone (letters text)) room
-      ∙ none-stops (letterRungs (letters text)) (stringDone (letters text)) (stringDone (letters text)) (letters-numbered (letters text)) read-letters in
+      ∙ none-stops (letterRungs (letters text)) (stringDone (letters text)) (stringDone (letters text)) (letters-numbered (letters text)) (past-head .1) in
       let e : p ≡ packed (stringDone (letters text)) (length text) = packs .answer ∙ rw (a, n) in
       let zero : p .number ≡ 0 = packed-number e in
       record {

@@ -5,6 +5,7 @@
 --   put-last       the last byte first
 --   put-none       nothing; put-start: from the very start
 --   put-paste      as a copy of a whole text
+--   put-inside     it lies inside a buffer that kept its length
 --   wrote-append   one writer after another; wrote-room: the room that is left for the second
 use mathlib.Core.List.{List, [], _++_, _∷_, append-assoc}
 use mathlib.Core.Path.{_∙_, _≡_, ap, sym}
@@ -140,3 +141,16 @@ unfolding put
 put-start out s =
     let q : 0 + length s ≡ length s = omega arith in
     rw q
+
+-- what a writer wrote into a buffer that kept its length lies inside
+pub put-inside : (out : List ℕ) (at : ℕ) (s : List ℕ) → length (put out at s) ≡ length out → at ≤ length out → at + length s ≤ length out
+unfolding put
+put-inside out at s e h =
+    omega (
+      arith,
+      e,
+      length-append (take at out) (s ++ drop (at + length s) out),
+      length-append s (drop (at + length s) out),
+      length-take-le at out h,
+      length-drop (at + length s) out,
+    )
