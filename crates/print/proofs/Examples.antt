@@ -8,11 +8,15 @@ counts : countsLine 4 4 7 ≡ 116 ∷ 114 ∷ 105 ∷ 61 ∷ 52 ∷ 32 ∷ 118 �
 unfolding countsLine triangleLine refusalLine three numbered decimal decimalIn
 counts = refl
 
-triangle-0 : triangleLine (2 ∷ 0 ∷ 1 ∷ 3 ∷ 2 ∷ 1 ∷ 0 ∷ 3 ∷ 1 ∷ 2 ∷ 3 ∷ 0 ∷ []) (7 ∷ 3 ∷ 10 ∷ 1 ∷ 6 ∷ 11 ∷ 4 ∷ 0 ∷ 9 ∷ 8 ∷ 2 ∷ 5 ∷ []) 0 ≡ 107 ∷ 61 ∷ 48 ∷ 32 ∷ 118 ∷ 61 ∷ 50 ∷ 44 ∷ 48 ∷ 44 ∷ 49 ∷ 32 ∷ 111 ∷ 61 ∷ 55 ∷ 44 ∷ 51 ∷ 44 ∷ 49 ∷ 48 ∷ 10 ∷ []
+triangle-0 : triangleLine (2 ∷ 0 ∷ 1 ∷ 3 ∷ 2 ∷ 1 ∷ 0 ∷ 3 ∷ 1 ∷ 2 ∷ 3 ∷ 0 ∷ [])
+    (7 ∷ 3 ∷ 10 ∷ 1 ∷ 6 ∷ 11 ∷ 4 ∷ 0 ∷ 9 ∷ 8 ∷ 2 ∷ 5 ∷ []) 0
+    ≡ 107 ∷ 61 ∷ 48 ∷ 32 ∷ 118 ∷ 61 ∷ 50 ∷ 44 ∷ 48 ∷ 44 ∷ 49 ∷ 32 ∷ 111 ∷ 61 ∷ 55 ∷ 44 ∷ 51 ∷ 44 ∷ 49 ∷ 48 ∷ 10 ∷ []
 unfolding countsLine triangleLine refusalLine three numbered decimal decimalIn
 triangle-0 = refl
 
-triangle-3 : triangleLine (2 ∷ 0 ∷ 1 ∷ 3 ∷ 2 ∷ 1 ∷ 0 ∷ 3 ∷ 1 ∷ 2 ∷ 3 ∷ 0 ∷ []) (7 ∷ 3 ∷ 10 ∷ 1 ∷ 6 ∷ 11 ∷ 4 ∷ 0 ∷ 9 ∷ 8 ∷ 2 ∷ 5 ∷ []) 3 ≡ 107 ∷ 61 ∷ 51 ∷ 32 ∷ 118 ∷ 61 ∷ 50 ∷ 44 ∷ 51 ∷ 44 ∷ 48 ∷ 32 ∷ 111 ∷ 61 ∷ 56 ∷ 44 ∷ 50 ∷ 44 ∷ 53 ∷ 10 ∷ []
+triangle-3 : triangleLine (2 ∷ 0 ∷ 1 ∷ 3 ∷ 2 ∷ 1 ∷ 0 ∷ 3 ∷ 1 ∷ 2 ∷ 3 ∷ 0 ∷ [])
+    (7 ∷ 3 ∷ 10 ∷ 1 ∷ 6 ∷ 11 ∷ 4 ∷ 0 ∷ 9 ∷ 8 ∷ 2 ∷ 5 ∷ []) 3
+    ≡ 107 ∷ 61 ∷ 51 ∷ 32 ∷ 118 ∷ 61 ∷ 50 ∷ 44 ∷ 51 ∷ 44 ∷ 48 ∷ 32 ∷ 111 ∷ 61 ∷ 56 ∷ 44 ∷ 50 ∷ 44 ∷ 53 ∷ 10 ∷ []
 unfolding countsLine triangleLine refusalLine three numbered decimal decimalIn
 triangle-3 = refl
 

@@ -65,6 +65,8 @@ triangle-length vs os k hv ho hk =
       length-append (kPiece k ++ vPiece vs (3 * k)) (oPiece os (3 * k)),
       length-append (kPiece k) (vPiece vs (3 * k)),
       numbered-length (107 ∷ 61 ∷ []) k hk,
-      three-length (32 ∷ 118 ∷ 61 ∷ []) (getD vs (3 * k) 0) (getD vs (3 * k + 1) 0) (getD vs (3 * k + 2) 0) (hv (3 * k)) (hv (3 * k + 1)) (hv (3 * k + 2)),
-      three-length (32 ∷ 111 ∷ 61 ∷ []) (getD os (3 * k) 0) (getD os (3 * k + 1) 0) (getD os (3 * k + 2) 0) (ho (3 * k)) (ho (3 * k + 1)) (ho (3 * k + 2)),
+      three-length (32 ∷ 118 ∷ 61 ∷ []) (getD vs (3 * k) 0) (getD vs (3 * k + 1) 0) (getD vs (3 * k + 2) 0)
+          (hv (3 * k)) (hv (3 * k + 1)) (hv (3 * k + 2)),
+      three-length (32 ∷ 111 ∷ 61 ∷ []) (getD os (3 * k) 0) (getD os (3 * k + 1) 0) (getD os (3 * k + 2) 0)
+          (ho (3 * k)) (ho (3 * k + 1)) (ho (3 * k + 2)),
     )

@@ -28,21 +28,30 @@ printing-start out at vs os t = record {
   short = omega arith;
 }
 
-module _ (before : List ℕ) (at : ℕ) (vs os : List ℕ) (t : ℕ) (out : List ℕ) (k p : ℕ) (printing : Printing before at vs os t out k p)
+module _ (before : List ℕ) (at : ℕ) (vs os : List ℕ) (t : ℕ) (out : List ℕ) (k p : ℕ)
+    (printing : Printing before at vs os t out k p)
     (more : k < t) (room : at + 83 * t ≤ length before) (line : length (triangleLine vs os k) ≤ 83) where
   pub printing-room : p + length (triangleLine vs os k) ≤ length out
   printing-room = omega (arith, printing .same, printing .short)
 
-  pub printing-next : {after : List ℕ} {q : ℕ} → Wrote out p (triangleLine vs os k) after q → Printing before at vs os t after (k + 1) q
+  pub printing-next : {after : List ℕ} {q : ℕ} → Wrote out p (triangleLine vs os k) after q
+      → Printing before at vs os t after (k + 1) q
   unfolding triangleLines
   printing-next {after} {q} w =
       let fits : at + length (triangleLines vs os k ++ triangleLine vs os k) ≤ length before =
-      omega (arith, length-append (triangleLines vs os k) (triangleLine vs os k), printing .wrote .place, printing .short) in
+      omega (
+        arith,
+        length-append (triangleLines vs os k)
+            (triangleLine vs os k),
+        printing .wrote .place,
+        printing .short,
+      ) in
       record {
         inside = omega arith;
         same = ap length (w .text) ∙ length-put out p (triangleLine vs os k) printing-room ∙ printing .same;
         wrote =
             rw (add-one k)
-            (wrote-append before at (triangleLines vs os k) (triangleLine vs os k) fits out p (printing .wrote) after q w);
+            (wrote-append before at (triangleLines vs os k) (triangleLine vs os k) fits out p
+            (printing .wrote) after q w);
         short = omega (arith, w .place, printing .short);
       }

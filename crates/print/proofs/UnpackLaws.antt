@@ -46,11 +46,12 @@ pub ready-sizes : (n m k l : ℕ) → ready n m k l ≡ true → (n ≡ 2400) ×
 unfolding ready
 ready-sizes n m k l h =
     let h1 = and-right (eqb n 2400) _ h in
-    let h2 = and-right (eqb m 2400) _ h1 in
-    ( eqb-true n 2400 (and-left (eqb n 2400) _ h)
-    , eqb-true m 2400 (and-left (eqb m 2400) _ h1)
-    , eqb-true k 9600 (and-left (eqb k 9600) _ h2)
-    , leb-true textRoom l (and-right (eqb k 9600) _ h2) )
+    let h2 = and-right (eqb m 2400) _ h1 in (
+      eqb-true n 2400 (and-left (eqb n 2400) _ h),
+      eqb-true m 2400 (and-left (eqb m 2400) _ h1),
+      eqb-true k 9600 (and-left (eqb k 9600) _ h2),
+      leb-true textRoom l (and-right (eqb k 9600) _ h2),
+    )
 
 -- room for 800 triangles is what the tables and the work space give
 limit-room : (n : ℕ) → leb (3 * n) 2400 && (leb (3 * n) 2400 && leb (12 * n) 9600) ≡ leb n triangleLimit
@@ -62,7 +63,8 @@ limit-room n = go (decLe n triangleLimit)
 
 -- ---- tables that have more behind them print the same lines
 
-line-same : (a b x y : List ℕ) (k : ℕ) → 3 * k + 3 ≤ length a → 3 * k + 3 ≤ length b → triangleLine (a ++ x) (b ++ y) k ≡ triangleLine a b k
+line-same : (a b x y : List ℕ) (k : ℕ) → 3 * k + 3 ≤ length a → 3 * k + 3 ≤ length b
+    → triangleLine (a ++ x) (b ++ y) k ≡ triangleLine a b k
 unfolding triangleLine
 line-same a b x y k ha hb =
     rw (
@@ -74,7 +76,8 @@ line-same a b x y k ha hb =
       List·getD-append b y 0 (3 * k + 2) (omega arith),
     )
 
-lines-same : (k : ℕ) (a b x y : List ℕ) → 3 * k ≤ length a → 3 * k ≤ length b → triangleLines (a ++ x) (b ++ y) k ≡ triangleLines a b k
+lines-same : (k : ℕ) (a b x y : List ℕ) → 3 * k ≤ length a → 3 * k ≤ length b
+    → triangleLines (a ++ x) (b ++ y) k ≡ triangleLines a b k
 unfolding triangleLines
 lines-same zero a b x y ha hb = refl
 lines-same (suc k) a b x y ha hb =
@@ -104,9 +107,11 @@ module _ (bytes vs os work out : List ℕ) where
   }
 
   module _ (well : lentWell vs os work out ≡ true) where
-    made : (a : Answer) → unpackAnswer bytes ≡ a → (text : List ℕ) → answerText a (gateLine bytes .value) (letters bytes) ≡ text
+    made : (a : Answer) → unpackAnswer bytes ≡ a → (text : List ℕ)
+        → answerText a (gateLine bytes .value) (letters bytes) ≡ text
         → {out′ vs′ os′ work′ : List ℕ} {r : ℕ} → Wrote out 0 text out′ r → length out′ ≡ length out
-        → vs′ ≡ filled a (tableV (wordOf (letters bytes))) vs → os′ ≡ filled a (tableO (wordOf (letters bytes))) os → work′ ≡ cleared early a work
+        → vs′ ≡ filled a (tableV (wordOf (letters bytes))) vs → os′ ≡ filled a (tableO (wordOf (letters bytes))) os
+        → work′ ≡ cleared early a work
         → Unpacks bytes vs os work out r vs′ os′ work′ out′
     unfolding shown reported unpackText
     made a e text et {out′} {vs′} {os′} {work′} {r} w same ev eo ew =
@@ -119,24 +124,34 @@ module _ (bytes vs os work out : List ℕ) where
           vertices = rw p ev;
           neighbours = rw p eo;
           space = rw p ew;
-          inside = omega (arith, w .place, same, put-inside out 0 text (ap length (sym (w .text)) ∙ same) (omega arith));
+          inside = omega (
+            arith,
+            w .place,
+            same,
+            put-inside out 0 text (ap length (sym (w .text)) ∙ same)
+                (omega arith),
+          );
         }
 
-    refused-text : (a : Answer) → a .number ≢ 0 → answerText a (gateLine bytes .value) (letters bytes) ≡ refusalLine (a .number) (a .place)
+    refused-text : (a : Answer) → a .number ≢ 0
+        → answerText a (gateLine bytes .value) (letters bytes) ≡ refusalLine (a .number) (a .place)
     unfolding answerText
     refused-text a n = rw (ne-eqb (a .number) 0 n)
 
-    pub unpack-long : byteLimit < length bytes → {out′ : List ℕ} {r : ℕ} → Wrote out 0 (refusalLine 2 0) out′ r → length out′ ≡ length out
+    pub unpack-long : byteLimit < length bytes → {out′ : List ℕ} {r : ℕ} → Wrote out 0 (refusalLine 2 0) out′ r
+        → length out′ ≡ length out
         → Unpacks bytes vs os work out r vs os work out′
     unfolding unpackAnswer mem
     unpack-long h w same =
-        made (refused 2 0) (whole-stops 2 (leb (length bytes) byteLimit) _ (stringDone (letters bytes)) (lt-leb (length bytes) byteLimit h)) (refusalLine 2 0)
+        made (refused 2 0) (whole-stops 2 (leb (length bytes) byteLimit) _ (stringDone (letters bytes))
+        (lt-leb (length bytes) byteLimit h)) (refusalLine 2 0)
         (refused-text (refused 2 0) (λ e. omega arith)) w same
         (sym (filled-refused (refused 2 0) (tableV (wordOf (letters bytes))) vs (λ e. omega arith)))
         (sym (filled-refused (refused 2 0) (tableO (wordOf (letters bytes))) os (λ e. omega arith)))
         (sym (early-kept (refused 2 0) work refl))
 
-    module _ (few : length bytes ≤ byteLimit) {r : Opened} {vs′ os′ work′ : List ℕ} (opens : Opens bytes vs os work r vs′ os′ work′) where
+    module _ (few : length bytes ≤ byteLimit) {r : Opened} {vs′ os′ work′ : List ℕ}
+        (opens : Opens bytes vs os work r vs′ os′ work′) where
       plain-read : plainO r ≡ openAnswer bytes (length vs) (length os) (length work)
       unfolding opened
       plain-read = ap plainO (opens .answer)
@@ -145,14 +160,18 @@ module _ (bytes vs os work out : List ℕ) where
       unfolding unpackAnswer openAnswer textAnswer
       answered =
           let sizes = ready-sizes (length vs) (length os) (length work) (length out) well in
-          whole-passed 2 (leb (length bytes) byteLimit) _ (stringDone (letters bytes)) (le-leb (length bytes) byteLimit few)
-          ∙ ap (λ (b : Bool). firstBroken (openRungs bytes b) (stringDone (letters bytes))) (sym (limit-room (length (letters bytes))))
+          whole-passed 2 (leb (length bytes) byteLimit) _ (stringDone (letters bytes))
+          (le-leb (length bytes) byteLimit few)
+          ∙ ap (λ (b : Bool). firstBroken (openRungs bytes b) (stringDone (letters bytes)))
+          (sym (limit-room (length (letters bytes))))
           ∙ sym (plain-read ∙ rw (sizes .0, sizes .1, sizes .2))
 
-      pub unpack-refused : r .number ≢ 0 → {out′ : List ℕ} {p : ℕ} → Wrote out 0 (refusalLine (r .number) (r .place)) out′ p → length out′ ≡ length out
+      pub unpack-refused : r .number ≢ 0 → {out′ : List ℕ} {p : ℕ}
+          → Wrote out 0 (refusalLine (r .number) (r .place)) out′ p → length out′ ≡ length out
           → Unpacks bytes vs os work out p vs′ os′ work′ out′
       unpack-refused n w same =
-          made (plainO r) answered (refusalLine (r .number) (r .place)) (refused-text (plainO r) n) w same (opens .vertices) (opens .neighbours) (opens .space)
+          made (plainO r) answered (refusalLine (r .number) (r .place)) (refused-text (plainO r) n) w same
+          (opens .vertices) (opens .neighbours) (opens .space)
 
       module _ (z : r .number ≡ 0) where
         counts : plainO r ≡ stringDone (letters bytes)
@@ -171,26 +190,39 @@ module _ (bytes vs os work out : List ℕ) where
             )
 
         word-read : size (wordOf (letters bytes)) ≡ r .t
-        word-read = word-size (letters bytes) (read-letters bytes vs os work r vs′ os′ work′ opens z) ∙ sym triangles-read
+        word-read = word-size (letters bytes) (read-letters bytes vs os work r vs′ os′ work′ opens z)
+            ∙ sym triangles-read
 
-        lines-read : triangleLines vs′ os′ (r .t) ≡ triangleLines (tableV (wordOf (letters bytes))) (tableO (wordOf (letters bytes))) (r .t)
+        lines-read : triangleLines vs′ os′ (r .t) ≡ triangleLines (tableV (wordOf (letters bytes)))
+            (tableO (wordOf (letters bytes))) (r .t)
         lines-read =
             let w = wordOf (letters bytes) in
-            rw (opens .vertices ∙ filled-done (plainO r) (tableV w) vs z, opens .neighbours ∙ filled-done (plainO r) (tableO w) os z)
-            (lines-same (r .t) (tableV w) (tableO w) _ _ (omega (arith, length-v w, word-read)) (omega (arith, length-o w, word-read)))
+            rw (
+              opens .vertices ∙ filled-done (plainO r) (tableV w) vs z,
+              opens .neighbours
+                  ∙ filled-done (plainO r) (tableO w) os z,
+            )
+            (lines-same (r .t) (tableV w) (tableO w) _ _ (omega (arith, length-v w, word-read))
+            (omega (arith, length-o w, word-read)))
 
-        mesh-text : answerText (plainO r) (gateLine bytes .value) (letters bytes) ≡ countsLine (r .t) (r .v) (r .gate) ++ triangleLines vs′ os′ (r .t)
+        mesh-text : answerText (plainO r) (gateLine bytes .value) (letters bytes) ≡ countsLine (r .t) (r .v)
+            (r .gate) ++ triangleLines vs′ os′ (r .t)
         unfolding answerText
         mesh-text = rw (eq-eqb (r .number) 0 z, lines-read, read-gate bytes vs os work r vs′ os′ work′ opens z)
 
-        pub unpack-done : {mid out′ : List ℕ} {p q : ℕ} → Wrote out 0 (countsLine (r .t) (r .v) (r .gate)) mid p → length mid ≡ length out
+        pub unpack-done : {mid out′ : List ℕ} {p q : ℕ} → Wrote out 0 (countsLine (r .t) (r .v) (r .gate)) mid p
+            → length mid ≡ length out
             → Wrote mid p (triangleLines vs′ os′ (r .t)) out′ q → length out′ ≡ length mid
             → Unpacks bytes vs os work out q vs′ os′ work′ out′
         unpack-done {mid} {out′} {p} {q} w kept w2 kept2 =
             let line = countsLine (r .t) (r .v) (r .gate) in
             let rest = triangleLines vs′ os′ (r .t) in
-            let one : 0 + length line ≤ length out = put-inside out 0 line (ap length (sym (w .text)) ∙ kept) (omega arith) in
-            let two : p + length rest ≤ length mid = put-inside mid p rest (ap length (sym (w2 .text)) ∙ kept2) (omega (arith, w .place, one, kept)) in
-            let room : 0 + length (line ++ rest) ≤ length out = omega (arith, length-append line rest, w .place, two, kept) in
-            made (plainO r) answered (line ++ rest) mesh-text (wrote-append out 0 line rest room mid p w out′ q w2) (kept2 ∙ kept)
+            let one : 0 + length line ≤ length out = put-inside out 0 line (ap length (sym (w .text)) ∙ kept)
+            (omega arith) in
+            let two : p + length rest ≤ length mid = put-inside mid p rest (ap length (sym (w2 .text)) ∙ kept2)
+            (omega (arith, w .place, one, kept)) in
+            let room : 0 + length (line ++ rest) ≤ length out = omega
+            (arith, length-append line rest, w .place, two, kept) in
+            made (plainO r) answered (line ++ rest) mesh-text (wrote-append out 0 line rest room mid p w out′ q w2)
+            (kept2 ∙ kept)
             (opens .vertices) (opens .neighbours) (opens .space)

@@ -30,7 +30,8 @@ triangleLimit = 800
 
 unfoldable pub unpackAnswer : List ℕ → Answer
 unpackAnswer bytes =
-    firstBroken (whole 2 (leb (length bytes) byteLimit) ∷ openRungs bytes (leb (length (letters bytes)) triangleLimit)) (stringDone (letters bytes))
+    firstBroken (whole 2 (leb (length bytes) byteLimit) ∷ openRungs bytes
+    (leb (length (letters bytes)) triangleLimit)) (stringDone (letters bytes))
 
 abbrev pub meshText : Answer → ℕ → List ℕ → List ℕ → List ℕ
 meshText a gate vs os = countsLine (a .t) (a .v) gate ++ triangleLines vs os (a .t)
@@ -38,7 +39,8 @@ meshText a gate vs os = countsLine (a .t) (a .v) gate ++ triangleLines vs os (a 
 -- the text of an answer, s being the letters and gate the gate that were read
 unfoldable pub answerText : Answer → ℕ → List ℕ → List ℕ
 answerText a gate s =
-    cond (eqb (a .number) 0) (meshText a gate (tableV (wordOf s)) (tableO (wordOf s))) (refusalLine (a .number) (a .place))
+    cond (eqb (a .number) 0) (meshText a gate (tableV (wordOf s)) (tableO (wordOf s)))
+    (refusalLine (a .number) (a .place))
 
 unfoldable pub unpackText : List ℕ → List ℕ
 unpackText bytes = answerText (unpackAnswer bytes) (gateLine bytes .value) (letters bytes)
@@ -61,7 +63,9 @@ shown fit bytes = cond fit (unpackText bytes) []
 pub record Unpacks (bytes vs os work out : List ℕ) (r : ℕ) (vs′ os′ work′ out′ : List ℕ) : Type 0 where
   pub size : r ≡ length (shown (ready (length vs) (length os) (length work) (length out)) bytes)
   pub text : out′ ≡ put out 0 (shown (ready (length vs) (length os) (length work) (length out)) bytes)
-  pub vertices : vs′ ≡ filled (reported (ready (length vs) (length os) (length work) (length out)) bytes) (tableV (wordOf (letters bytes))) vs
-  pub neighbours : os′ ≡ filled (reported (ready (length vs) (length os) (length work) (length out)) bytes) (tableO (wordOf (letters bytes))) os
+  pub vertices : vs′ ≡ filled (reported (ready (length vs) (length os) (length work) (length out)) bytes)
+      (tableV (wordOf (letters bytes))) vs
+  pub neighbours : os′ ≡ filled (reported (ready (length vs) (length os) (length work) (length out)) bytes)
+      (tableO (wordOf (letters bytes))) os
   pub space : work′ ≡ cleared early (reported (ready (length vs) (length os) (length work) (length out)) bytes) work
   pub inside : r ≤ length out′

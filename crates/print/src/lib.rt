@@ -9,7 +9,13 @@ ghost use Rattle.print.specs.Unpack.{Unpacks, ready};
 
 // Prints what a record holds, or its refusal, into out; answers how many bytes. The tables have 2,400 numbers each, the
 // work space 9,600 and the buffer at least 66,446 bytes; where they have not, nothing is printed or touched.
-pub fn unpack(bytes: &[u8], vs: &mut [u32], os: &mut [u32], work: &mut [u32], out: &mut [u8]) -> usize
+pub fn unpack(
+    bytes: &[u8],
+    vs: &mut [u32],
+    os: &mut [u32],
+    work: &mut [u32],
+    out: &mut [u8],
+) -> usize
     ensures { λ r. ⌜ Unpacks (now (bytes .entry)) (now (vs .entry)) (now (os .entry)) (now (work .entry)) (now (out .entry)) r (now (vs .exit)) (now (os .exit)) (now (work .exit)) (now (out .exit)) ⌝ }
 {
     if !is_ready(vs.len(), os.len(), work.len(), out.len()) {

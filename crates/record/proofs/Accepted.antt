@@ -34,7 +34,8 @@ pub record Lines (text : List ℕ) : Type 0 where
   pub symLine : isSymLine text ≡ true
   pub end : after4 text ≡ []
 
-five : (a b c d e : Bool) → 5 ≤ least (λ i. getD (a ∷ b ∷ c ∷ d ∷ e ∷ []) i true) 5 → (a ≡ true) × (b ≡ true) × (c ≡ true) × (d ≡ true) × (e ≡ true)
+five : (a b c d e : Bool) → 5 ≤ least (λ i. getD (a ∷ b ∷ c ∷ d ∷ e ∷ []) i true) 5
+    → (a ≡ true) × (b ≡ true) × (c ≡ true) × (d ≡ true) × (e ≡ true)
 unfolding least leastFrom
 five true true true true true h = (refl, refl, refl, refl, refl)
 five true true true true false h = absurd (omega arith)
@@ -50,8 +51,16 @@ empty (x ∷ l) e = absurd (omega arith)
 pub lines-of : (text : List ℕ) → 5 ≤ malformed text → Lines text
 unfolding wellFormedAt
 lines-of text h =
-    let a = five (formLine text .good) (triLine text .good) (gateLine text .good) (isSymLine text) (eqb (length (after4 text)) 0) h in
-    record { form = a .0; tri = a .1; gate = a .2; symLine = a .3; end = empty (after4 text) (eqb-true (length (after4 text)) 0 (a .4)) }
+    let a = five (formLine text .good) (triLine text .good) (gateLine text .good) (isSymLine text)
+    (eqb (length (after4 text)) 0) h in
+    record {
+      form = a .0;
+      tri = a .1;
+      gate = a .2;
+      symLine = a .3;
+      end = empty (after4 text)
+          (eqb-true (length (after4 text)) 0 (a .4));
+    }
 
 module _ (text : List ℕ) (lines : Lines text) where
   pub lines-well : malformed text ≡ 5
@@ -87,7 +96,13 @@ module _ (text : List ℕ) (lines : Lines text) where
   -- the part that is passed on ends within the text
   pub letters-inside : symStart text + length (letters text) ≤ length text
   letters-inside =
-      omega (arith, ap length behind-key, length-drop (symStart text) text, length-append (letters text) (lineEnd ∷ after4 text))
+      omega (
+        arith,
+        ap length behind-key,
+        length-drop (symStart text) text,
+        length-append (letters text)
+            (lineEnd ∷ after4 text),
+      )
 
   pub letters-lack : lacks lineEnd (letters text) ≡ true
   letters-lack = keyed-lacks symKey (after3 text) (lines .symLine)
@@ -117,4 +132,5 @@ good-of text a z =
 pub good-passes : (text : List ℕ) → Good text → (a : Answer) → firstBroken (headRungs text) a ≡ a
 good-passes text good a =
     each-passed 16 (wellFormedAt text) 5 (valuesOf text) a (omega (arith, lines-well text (good .lines)))
-    ∙ sym (values-done (formLine text .value) (triLine text .value) (gateLine text .value) (length (letters text)) a (good .one) (good .count) (good .corner) (good .enough))
+    ∙ sym (values-done (formLine text .value) (triLine text .value) (gateLine text .value) (length (letters text)) a
+    (good .one) (good .count) (good .corner) (good .enough))

@@ -27,14 +27,16 @@ module _ (form t gate count : ℕ) (a : Answer) where
   values-form h = sym (whole-stops 17 (eqb form 1) _ a (ne-eqb form 1 h))
 
   module _ (f : form ≡ 1) where
-    past-form : firstBroken (valueRungs form t gate count) a ≡ firstBroken (countRung t ∷ whole 8 (ltb gate (3 * t)) ∷ whole 18 (eqb count t) ∷ []) a
+    past-form : firstBroken (valueRungs form t gate count) a ≡ firstBroken
+        (countRung t ∷ whole 8 (ltb gate (3 * t)) ∷ whole 18 (eqb count t) ∷ []) a
     past-form = whole-passed 17 (eqb form 1) _ a (eq-eqb form 1 f)
 
     pub values-count : countOk t ≡ false → refused 1 0 ≡ firstBroken (valueRungs form t gate count) a
     values-count e = sym (past-form ∙ whole-stops 1 (countOk t) _ a e)
 
     module _ (k : countOk t ≡ true) where
-      past-count : firstBroken (valueRungs form t gate count) a ≡ firstBroken (whole 8 (ltb gate (3 * t)) ∷ whole 18 (eqb count t) ∷ []) a
+      past-count : firstBroken (valueRungs form t gate count) a ≡ firstBroken
+          (whole 8 (ltb gate (3 * t)) ∷ whole 18 (eqb count t) ∷ []) a
       past-count = past-form ∙ whole-passed 1 (countOk t) _ a k
 
       pub values-gate : 3 * t ≤ gate → refused 8 0 ≡ firstBroken (valueRungs form t gate count) a

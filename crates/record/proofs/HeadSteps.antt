@@ -62,7 +62,8 @@ module _ (text : List ℕ) (form : NumberLine) (ef : form ≡ formLine text) whe
     pub step-tri : tri .good ≡ false → refusedHead (refused 16 1) ≡ headOf text
     step-tri g = head-line text 1 (malformed-tri text f (of-good tri (triLine text) false tri-read g)) (omega arith)
 
-    module _ (gt : tri .good ≡ true) (gate : NumberLine) (eg : gate ≡ numberLine gateKey (restOf (restOf text (form .size)) (tri .size))) where
+    module _ (gt : tri .good ≡ true) (gate : NumberLine)
+        (eg : gate ≡ numberLine gateKey (restOf (restOf text (form .size)) (tri .size))) where
       t : triLine text .good ≡ true
       t = of-good tri (triLine text) true tri-read gt
 
@@ -73,9 +74,11 @@ module _ (text : List ℕ) (form : NumberLine) (ef : form ≡ formLine text) whe
       gate-read = eg ∙ ap (numberLine gateKey) rest2
 
       pub step-gate : gate .good ≡ false → refusedHead (refused 16 2) ≡ headOf text
-      step-gate g = head-line text 2 (malformed-gate text f t (of-good gate (gateLine text) false gate-read g)) (omega arith)
+      step-gate g = head-line text 2 (malformed-gate text f t (of-good gate (gateLine text) false gate-read g))
+          (omega arith)
 
-      module _ (gg : gate .good ≡ true) (n : ℕ) (en : n ≡ keyedSize symKey (restOf (restOf (restOf text (form .size)) (tri .size)) (gate .size))) where
+      module _ (gg : gate .good ≡ true) (n : ℕ)
+          (en : n ≡ keyedSize symKey (restOf (restOf (restOf text (form .size)) (tri .size)) (gate .size))) where
         g : gateLine text .good ≡ true
         g = of-good gate (gateLine text) true gate-read gg
 
@@ -86,7 +89,8 @@ module _ (text : List ℕ) (form : NumberLine) (ef : form ≡ formLine text) whe
         sym-read = en ∙ ap (keyedSize symKey) rest3
 
         pub step-sym : n ≡ 0 → refusedHead (refused 16 3) ≡ headOf text
-        step-sym z = head-line text 3 (malformed-sym text f t g (size-none symKey (after3 text) (sym sym-read ∙ z))) (omega arith)
+        step-sym z = head-line text 3 (malformed-sym text f t g (size-none symKey (after3 text) (sym sym-read ∙ z)))
+            (omega arith)
 
         module _ (some : n ≢ 0) where
           s : isSymLine text ≡ true
@@ -113,9 +117,11 @@ module _ (text : List ℕ) (form : NumberLine) (ef : form ≡ formLine text) whe
           pub step-room : 5 ≤ n
           step-room = omega (arith, sym-size, keyed-fits symKey (after3 text) s)
 
-          pub step-extra : n ≢ length (restOf (restOf (restOf text (form .size)) (tri .size)) (gate .size)) → refusedHead (refused 16 4) ≡ headOf text
+          pub step-extra : n ≢ length (restOf (restOf (restOf text (form .size)) (tri .size)) (gate .size))
+              → refusedHead (refused 16 4) ≡ headOf text
           step-extra more =
-              head-line text 4 (malformed-extra text f t g s (λ z. more (omega (arith, z, behind, within, ap length rest3)))) (omega arith)
+              head-line text 4 (malformed-extra text f t g s
+              (λ z. more (omega (arith, z, behind, within, ap length rest3)))) (omega arith)
 
           module _ (end : n ≡ length (restOf (restOf (restOf text (form .size)) (tri .size)) (gate .size))) (a : Answer)
               (ea : a ≡ firstBroken (valueRungs (form .value) (tri .value) (gate .value) (n - 5)) (done 0 0)) where

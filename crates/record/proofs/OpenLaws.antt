@@ -54,7 +54,8 @@ string-numbers : (s : List ℕ) (fits : Bool) → stringAnswer s fits .number �
 unfolding stringAnswer
 string-numbers s fits =
     rungs-keep (λ n. n ≤ 7) (countRung (length s) ∷ roomRung fits ∷ letterRungs s) (stringDone s)
-    (omega arith, (omega arith, (omega arith, (omega arith, (omega arith, (omega arith, (omega arith, tt))))))) (omega arith)
+    (omega arith, (omega arith, (omega arith, (omega arith, (omega arith, (omega arith, (omega arith, tt)))))))
+    (omega arith)
 
 pub read-numbers : (s : List ℕ) (n m k : ℕ) → readAnswer s n m k .number ≤ 7
 unfolding readAnswer
@@ -70,9 +71,11 @@ module _ (text : List ℕ) where
   head-zero z = go (ℕ-discrete (headAnswer text .number) 0) z
     where
       go : Dec (headAnswer text .number ≡ 0)
-          → cond (eqb (headAnswer text .number) 0) (acceptedHead text) (refusedHead (headAnswer text)) .number ≡ 0 → headAnswer text .number ≡ 0
+          → cond (eqb (headAnswer text .number) 0) (acceptedHead text) (refusedHead (headAnswer text)) .number ≡ 0
+          → headAnswer text .number ≡ 0
       go (yes e) z = e
-      go (no n) z = subst (λ (b : Bool). cond b (acceptedHead text) (refusedHead (headAnswer text)) .number ≡ 0) (ne-eqb (headAnswer text .number) 0 n) z
+      go (no n) z = subst (λ (b : Bool). cond b (acceptedHead text) (refusedHead (headAnswer text)) .number ≡ 0)
+          (ne-eqb (headAnswer text .number) 0 n) z
 
   pub head-good : headOf text .number ≡ 0 → Good text
   unfolding headAnswer
@@ -112,12 +115,14 @@ module _ (text : List ℕ) (h : Head) (e : h ≡ headOf text) (z : h .number ≡
       rw (q, accepted) (letters-place text (head-good text zero .lines))
 
 module _ (text vs os work : List ℕ) (h : Head) (e : h ≡ headOf text) where
-  pub open-refused : h .number ≢ 0 → (a : Answer) → a ≡ refused (h .number) (h .place) → (r : Opened) → r ≡ opened a 0 → Opens text vs os work r vs os work
+  pub open-refused : h .number ≢ 0 → (a : Answer) → a ≡ refused (h .number) (h .place) → (r : Opened)
+      → r ≡ opened a 0 → Opens text vs os work r vs os work
   unfolding headAnswer openAnswer textAnswer opened
   open-refused n a ea r er =
       let m : headOf text .number ≢ 0 = λ z. n (ap (λ (x : Head). x .number) e ∙ z) in
       let b : a ≡ headAnswer text =
-      ea ∙ ap (λ (x : Head). refused (x .number) (x .place)) (e ∙ head-isnt text m) ∙ sym (plain-refusal (headRungs text)) in
+      ea ∙ ap (λ (x : Head). refused (x .number) (x .place)) (e ∙ head-isnt text m)
+      ∙ sym (plain-refusal (headRungs text)) in
       let k : a .number ≢ 0 = λ z. head-not text m (ap (λ (x : Answer). x .number) (sym b) ∙ z) in
       let o : openAnswer text (length vs) (length os) (length work) ≡ a =
       firstBroken-append (headRungs text) _ (stringDone (letters text))
@@ -130,7 +135,8 @@ module _ (text vs os work : List ℕ) (h : Head) (e : h ≡ headOf text) where
         space = rw er (sym (early-kept a work q));
       }
 
-  pub open-read : h .number ≡ 0 → (s : List ℕ) → s ≡ letters text → {a : Answer} {vs′ os′ work′ : List ℕ} → Reads s vs os work a vs′ os′ work′
+  pub open-read : h .number ≡ 0 → (s : List ℕ) → s ≡ letters text → {a : Answer} {vs′ os′ work′ : List ℕ}
+      → Reads s vs os work a vs′ os′ work′
       → (r : Opened) → r ≡ opened a (h .gate) → Opens text vs os work r vs′ os′ work′
   unfolding openAnswer textAnswer readAnswer stringAnswer opened
   open-read z s es {a} {vs′} {os′} {work′} reads r er =
@@ -145,5 +151,6 @@ module _ (text vs os work : List ℕ) (h : Head) (e : h ≡ headOf text) where
         answer = er ∙ rw (o, ap (λ (x : Head). x .gate) (accepted text h e z));
         vertices = rw er (reads .vertices ∙ ap (λ (l : List ℕ). filled a (tableV (wordOf l)) vs) es);
         neighbours = rw er (reads .neighbours ∙ ap (λ (l : List ℕ). filled a (tableO (wordOf l)) os) es);
-        space = rw er (reads .space ∙ string-cleared a work (rw b (read-numbers (letters text) (length vs) (length os) (length work))));
+        space = rw er (reads .space ∙ string-cleared a work
+            (rw b (read-numbers (letters text) (length vs) (length os) (length work))));
       }

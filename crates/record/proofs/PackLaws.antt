@@ -33,7 +33,8 @@ module _ (s : List ℕ) (gate : ℕ) (out work : List ℕ) where
   abbrev room : Bool
   room = leb (length (textOf s gate)) (length out) && leb (12 * length s) (length work)
 
-  stops : (a : Answer) → packAnswer s gate (length out) (length work) ≡ a → a .number ≢ 0 → Early (a .number) → (b : Answer) → b ≡ a
+  stops : (a : Answer) → packAnswer s gate (length out) (length work) ≡ a → a .number ≢ 0 → Early (a .number)
+      → (b : Answer) → b ≡ a
       → (r : Packed) → r ≡ packed b 0 → Packs s gate out work r out work
   unfolding packed
   stops a e n early b q r er = record {
@@ -42,23 +43,30 @@ module _ (s : List ℕ) (gate : ℕ) (out work : List ℕ) where
     space = rw (er, q) (sym (early-kept a work early));
   }
 
-  pub pack-count : countOk (length s) ≡ false → (b : Answer) → b ≡ refused 1 0 → (r : Packed) → r ≡ packed b 0 → Packs s gate out work r out work
+  pub pack-count : countOk (length s) ≡ false → (b : Answer) → b ≡ refused 1 0 → (r : Packed) → r ≡ packed b 0
+      → Packs s gate out work r out work
   unfolding packAnswer mem
   pack-count h = stops (refused 1 0) (whole-stops 1 (countOk (length s)) _ (stringDone s) h) (λ e. omega arith) refl
 
   module _ (count : countOk (length s) ≡ true) where
-    past-count : packAnswer s gate (length out) (length work) ≡ firstBroken (whole 8 (ltb gate (3 * length s)) ∷ roomRung room ∷ letterRungs s) (stringDone s)
+    past-count : packAnswer s gate (length out) (length work) ≡ firstBroken
+        (whole 8 (ltb gate (3 * length s)) ∷ roomRung room ∷ letterRungs s) (stringDone s)
     unfolding packAnswer
     past-count = whole-passed 1 (countOk (length s)) _ (stringDone s) count
 
-    pub pack-gate : 3 * length s ≤ gate → (b : Answer) → b ≡ refused 8 0 → (r : Packed) → r ≡ packed b 0 → Packs s gate out work r out work
+    pub pack-gate : 3 * length s ≤ gate → (b : Answer) → b ≡ refused 8 0 → (r : Packed) → r ≡ packed b 0
+        → Packs s gate out work r out work
     unfolding mem
     pack-gate h =
-        stops (refused 8 0) (past-count ∙ whole-stops 8 (ltb gate (3 * length s)) _ (stringDone s) (le-ltb gate (3 * length s) h)) (λ e. omega arith) refl
+        stops (refused 8 0) (past-count
+        ∙ whole-stops 8 (ltb gate (3 * length s)) _ (stringDone s) (le-ltb gate (3 * length s) h))
+        (λ e. omega arith) refl
 
     module _ (corner : gate < 3 * length s) where
-      past-gate : packAnswer s gate (length out) (length work) ≡ firstBroken (roomRung room ∷ letterRungs s) (stringDone s)
-      past-gate = past-count ∙ whole-passed 8 (ltb gate (3 * length s)) _ (stringDone s) (lt-ltb gate (3 * length s) corner)
+      past-gate : packAnswer s gate (length out) (length work) ≡ firstBroken (roomRung room ∷ letterRungs s)
+          (stringDone s)
+      past-gate = past-count ∙ whole-passed 8 (ltb gate (3 * length s)) _ (stringDone s)
+          (lt-ltb gate (3 * length s) corner)
 
       -- a text's length is a number of 32 bits
       pub place-fits : {out′ : List ℕ} {p : ℕ} → Wrote out 0 (recordText (length s) gate s) out′ p → p < 4294967296
@@ -78,7 +86,8 @@ module _ (s : List ℕ) (gate : ℕ) (out work : List ℕ) where
         unfolding textOf
         text-length = record-length (length s) gate s ∙ rw (ed, ee)
 
-        pub pack-text : length out < 23 + d + e + length s → (b : Answer) → b ≡ refused 2 0 → (r : Packed) → r ≡ packed b 0 → Packs s gate out work r out work
+        pub pack-text : length out < 23 + d + e + length s → (b : Answer) → b ≡ refused 2 0 → (r : Packed)
+            → r ≡ packed b 0 → Packs s gate out work r out work
         unfolding mem
         pack-text h =
             let no : room ≡ false = rw (lt-leb (length (textOf s gate)) (length out) (omega (arith, text-length))) in
@@ -89,21 +98,32 @@ module _ (s : List ℕ) (gate : ℕ) (out work : List ℕ) where
           unfolding textOf
           text-fits = omega (arith, text-length)
 
-          pub pack-work : length work < 12 * length s → (b : Answer) → b ≡ refused 2 0 → (r : Packed) → r ≡ packed b 0 → Packs s gate out work r out work
+          pub pack-work : length work < 12 * length s → (b : Answer) → b ≡ refused 2 0 → (r : Packed)
+              → r ≡ packed b 0 → Packs s gate out work r out work
           unfolding mem
           pack-work h =
               let no : room ≡ false =
-              rw (le-leb (length (textOf s gate)) (length out) (omega (arith, text-length)), lt-leb (12 * length s) (length work) h) in
+              rw (
+                le-leb (length (textOf s gate)) (length out) (omega (arith, text-length)),
+                lt-leb (12 * length s)
+                    (length work) h,
+              ) in
               stops (refused 2 0) (past-gate ∙ whole-stops 2 room _ (stringDone s) no) (λ e. omega arith) refl
 
-          module _ (space : 12 * length s ≤ length work) {a : Answer} {work′ : List ℕ} (judged : Judges s work a work′) where
+          module _ (space : 12 * length s ≤ length work) {a : Answer} {work′ : List ℕ}
+              (judged : Judges s work a work′) where
             answered : packAnswer s gate (length out) (length work) ≡ a
             unfolding judgeAnswer stringAnswer
             answered =
                 let fit : leb (12 * length s) (length work) ≡ true = le-leb (12 * length s) (length work) space in
-                let both : room ≡ true = rw (le-leb (length (textOf s gate)) (length out) (omega (arith, text-length)), fit) in
+                let both : room ≡ true = rw (
+                  le-leb (length (textOf s gate)) (length out)
+                      (omega (arith, text-length)),
+                  fit,
+                ) in
                 past-gate ∙ whole-passed 2 room _ (stringDone s) both
-                ∙ sym (judged .answer ∙ whole-passed 1 (countOk (length s)) _ (stringDone s) count ∙ whole-passed 2 (leb (12 * length s) (length work)) _ (stringDone s) fit)
+                ∙ sym (judged .answer ∙ whole-passed 1 (countOk (length s)) _ (stringDone s) count
+                ∙ whole-passed 2 (leb (12 * length s) (length work)) _ (stringDone s) fit)
 
             kept : work′ ≡ cleared early a work
             kept = judged .space ∙ string-cleared a work (rw (judged .answer) (judge-numbers s (length work)))
@@ -123,6 +143,7 @@ module _ (s : List ℕ) (gate : ℕ) (out work : List ℕ) where
                 let q : p ≡ length (recordText (length s) gate s) = omega (arith, w .place) in
                 record {
                   answer = er ∙ rw (answered, q);
-                  text = rw er (w .text ∙ put-start out (recordText (length s) gate s) ∙ sym (filled-done a (recordText (length s) gate s) out z));
+                  text = rw er (w .text ∙ put-start out (recordText (length s) gate s)
+                      ∙ sym (filled-done a (recordText (length s) gate s) out z));
                   space = rw er kept;
                 }

@@ -15,7 +15,8 @@ use Rattle.text.specs.Put.{Wrote}
 
 pieces : (b c d e f g : List ℕ) → b ++ c ++ d ++ e ++ f ++ g ≡ b ++ (c ++ (d ++ (e ++ (f ++ g))))
 pieces b c d e f g =
-    append-assoc (b ++ c ++ d ++ e) f g ∙ append-assoc (b ++ c ++ d) e (f ++ g) ∙ append-assoc (b ++ c) d (e ++ (f ++ g))
+    append-assoc (b ++ c ++ d ++ e) f g ∙ append-assoc (b ++ c ++ d) e (f ++ g)
+    ∙ append-assoc (b ++ c) d (e ++ (f ++ g))
     ∙ append-assoc b c (d ++ (e ++ (f ++ g)))
 
 one : decimal 1 ≡ 49 ∷ []
@@ -24,7 +25,8 @@ one = refl
 
 pub record-pieces : (t gate : ℕ) (s : List ℕ) → frontText t gate ++ endSym ++ s ++ ended ≡ recordText t gate s
 unfolding frontText recordText recordOf
-record-pieces t gate s = rw one (ap (λ (r : List ℕ). formTri ++ r) (pieces (decimal t) endGate (decimal gate) endSym s ended))
+record-pieces t gate s = rw one
+    (ap (λ (r : List ℕ). formTri ++ r) (pieces (decimal t) endGate (decimal gate) endSym s ended))
 
 front-length : (t gate : ℕ) → length (frontText t gate) ≡ 17 + length (decimal t) + length (decimal gate)
 unfolding frontText
@@ -36,7 +38,8 @@ front-length t gate =
       length-append formTri (decimal t),
     )
 
-pub record-length : (t gate : ℕ) (s : List ℕ) → length (recordText t gate s) ≡ 23 + length (decimal t) + length (decimal gate) + length s
+pub record-length : (t gate : ℕ) (s : List ℕ)
+    → length (recordText t gate s) ≡ 23 + length (decimal t) + length (decimal gate) + length s
 record-length t gate s =
     rw (sym (record-pieces t gate s))
     (omega (
@@ -48,8 +51,10 @@ record-length t gate s =
     ))
 
 module _ (l : List ℕ) (at t gate : ℕ) (s : List ℕ) where
-  pub record-room : at + length (recordText t gate s) ≤ length l → at + length (frontText t gate ++ endSym ++ s ++ ended) ≤ length l
+  pub record-room : at + length (recordText t gate s) ≤ length l
+      → at + length (frontText t gate ++ endSym ++ s ++ ended) ≤ length l
   record-room h = subst (λ (x : List ℕ). at + length x ≤ length l) (sym (record-pieces t gate s)) h
 
-  pub record-wrote : {l2 : List ℕ} {r : ℕ} → Wrote l at (frontText t gate ++ endSym ++ s ++ ended) l2 r → Wrote l at (recordText t gate s) l2 r
+  pub record-wrote : {l2 : List ℕ} {r : ℕ} → Wrote l at (frontText t gate ++ endSym ++ s ++ ended) l2 r
+      → Wrote l at (recordText t gate s) l2 r
   record-wrote {l2} {r} w = subst (λ (x : List ℕ). Wrote l at x l2 r) (record-pieces t gate s) w

@@ -44,7 +44,8 @@ end-other x h e = not-both (isLetter lineEnd) (ap isLetter (sym e) ∙ h) refl
 
 all-letters : (s : List ℕ) → ((i : ℕ) → i < length s → isLetter (getD s i 0) ≡ true) → lacks lineEnd s ≡ true
 all-letters [] f = refl
-all-letters (x ∷ s) f = rw (ne-eqb x lineEnd (end-other x (f 0 (omega arith)))) (all-letters s (λ i h. f (suc i) (omega arith)))
+all-letters (x ∷ s) f = rw (ne-eqb x lineEnd (end-other x (f 0 (omega arith))))
+    (all-letters s (λ i h. f (suc i) (omega arith)))
 
 letters-numbered : (s : List ℕ) → EachRung (λ n. n ≢ 0) (letterRungs s)
 letters-numbered s =
@@ -91,7 +92,8 @@ pub record ReadBack (s : List ℕ) (gate : ℕ) (vs os : List ℕ) (r : Opened) 
   pub vertices : vs′ ≡ tableV (wordOf s) ++ drop (length (tableV (wordOf s))) vs
   pub neighbours : os′ ≡ tableO (wordOf s) ++ drop (length (tableO (wordOf s))) os
 
-module _ (s : List ℕ) (gate : ℕ) (out work : List ℕ) (p : Packed) (out′ work′ : List ℕ) (packs : Packs s gate out work p out′ work′) (z : p .number ≡ 0) where
+module _ (s : List ℕ) (gate : ℕ) (out work : List ℕ) (p : Packed) (out′ work′ : List ℕ)
+    (packs : Packs s gate out work p out′ work′) (z : p .number ≡ 0) where
   packed-zero : packAnswer s gate (length out) (length work) .number ≡ 0
   unfolding packed
   packed-zero = sym (ap (λ (x : Packed). x .number) (packs .answer)) ∙ z
@@ -101,28 +103,44 @@ module _ (s : List ℕ) (gate : ℕ) (out work : List ℕ) (p : Packed) (out′ 
   packed-length = ap (λ (x : Packed). x .length) (packs .answer) ∙ rw packed-zero
 
   pub written-text : take (p .length) out′ ≡ textOf s gate
-  written-text = rw (packed-length, packs .text, filled-done (plainP p) (textOf s gate) out z) (take-filled (textOf s gate) out)
+  written-text = rw (packed-length, packs .text, filled-done (plainP p) (textOf s gate) out z)
+      (take-filled (textOf s gate) out)
 
-  pub written-read : (vs os space : List ℕ) (r : Opened) (vs′ os′ space′ : List ℕ) → Opens (take (p .length) out′) vs os space r vs′ os′ space′
-      → 3 * length s ≤ length vs → 3 * length s ≤ length os → 12 * length s ≤ length space → ReadBack s gate vs os r vs′ os′
+  pub written-read : (vs os space : List ℕ) (r : Opened) (vs′ os′ space′ : List ℕ)
+      → Opens (take (p .length) out′) vs os space r vs′ os′ space′
+      → 3 * length s ≤ length vs → 3 * length s ≤ length os → 12 * length s ≤ length space
+      → ReadBack s gate vs os r vs′ os′
   unfolding openAnswer textAnswer opened
   written-read vs os space r vs′ os′ space′ opens hv ho hw =
       let packable = pack-packable s gate (length out) (length work) packed-zero in
       let q : letters (take (p .length) out′) ≡ s = ap letters written-text ∙ text-letters s gate packable in
-      let g : gateLine (take (p .length) out′) .value ≡ gate = ap (λ (l : List ℕ). gateLine l .value) written-text ∙ text-gate s gate packable in
+      let g : gateLine (take (p .length) out′) .value ≡ gate = ap (λ (l : List ℕ). gateLine l .value) written-text
+      ∙ text-gate s gate packable in
       let good : Good (take (p .length) out′) = subst Good (sym written-text) (text-good s gate packable) in
-      let room : leb (3 * length s) (length vs) && (leb (3 * length s) (length os) && leb (12 * length s) (length space)) ≡ true =
-      rw (le-leb (3 * length s) (length vs) hv, le-leb (3 * length s) (length os) ho, le-leb (12 * length s) (length space) hw) in
+      let room : leb (3 * length s) (length vs) &&
+      (leb (3 * length s) (length os) && leb (12 * length s) (length space)) ≡ true =
+      rw (
+        le-leb (3 * length s) (length vs) hv,
+        le-leb (3 * length s) (length os) ho,
+        le-leb (12 * length s)
+            (length space) hw,
+      ) in
       let a : openAnswer (take (p .length) out′) (length vs) (length os) (length space) ≡ stringDone s =
       firstBroken-append (headRungs (take (p .length) out′)) _ (stringDone (letters (take (p .length) out′)))
       ∙ good-passes (take (p .length) out′) good _
-      ∙ ap (λ (l : List ℕ). firstBroken (roomRung (leb (3 * length l) (length vs) && (leb (3 * length l) (length os) && leb (12 * length l) (length space))) ∷ letterRungs l) (stringDone l)) q
-      ∙ whole-passed 2 _ (letterRungs s) (stringDone s) room ∙ pack-letters s gate (length out) (length work) packed-zero (stringDone s) in
-      let zero : r .number ≡ 0 = ap (λ (x : Opened). x .number) (opens .answer ∙ ap (λ (x : Answer). opened x (gateLine (take (p .length) out′) .value)) a) in
+      ∙ ap (λ (l : List ℕ). firstBroken
+      (roomRung (leb (3 * length l) (length vs) &&
+      (leb (3 * length l) (length os) && leb (12 * length l) (length space))) ∷ letterRungs l) (stringDone l)) q
+      ∙ whole-passed 2 _ (letterRungs s) (stringDone s) room
+      ∙ pack-letters s gate (length out) (length work) packed-zero (stringDone s) in
+      let zero : r .number ≡ 0 = ap (λ (x : Opened). x .number)
+      (opens .answer ∙ ap (λ (x : Answer). opened x (gateLine (take (p .length) out′) .value)) a) in
       record {
         answer = opens .answer ∙ rw (a, g);
-        vertices = opens .vertices ∙ filled-done (plainO r) _ vs zero ∙ ap (λ (l : List ℕ). tableV (wordOf l) ++ drop (length (tableV (wordOf l))) vs) q;
-        neighbours = opens .neighbours ∙ filled-done (plainO r) _ os zero ∙ ap (λ (l : List ℕ). tableO (wordOf l) ++ drop (length (tableO (wordOf l))) os) q;
+        vertices = opens .vertices ∙ filled-done (plainO r) _ vs zero
+            ∙ ap (λ (l : List ℕ). tableV (wordOf l) ++ drop (length (tableV (wordOf l))) vs) q;
+        neighbours = opens .neighbours ∙ filled-done (plainO r) _ os zero
+            ∙ ap (λ (l : List ℕ). tableO (wordOf l) ++ drop (length (tableO (wordOf l))) os) q;
       }
 
 -- ---- a record that is accepted
@@ -132,21 +150,24 @@ pub record WrittenBack (text : List ℕ) (p : Packed) (out′ : List ℕ) : Type
   pub answer : p ≡ packed (stringDone (letters text)) (length text)
   pub same : take (length text) out′ ≡ text
 
-module _ (text vs os work : List ℕ) (r : Opened) (vs′ os′ work′ : List ℕ) (opens : Opens text vs os work r vs′ os′ work′) (z : r .number ≡ 0) where
+module _ (text vs os work : List ℕ) (r : Opened) (vs′ os′ work′ : List ℕ)
+    (opens : Opens text vs os work r vs′ os′ work′) (z : r .number ≡ 0) where
   opened-zero : openAnswer text (length vs) (length os) (length work) .number ≡ 0
   unfolding opened
   opened-zero = sym (ap (λ (x : Opened). x .number) (opens .answer)) ∙ z
 
   abbrev lent : Bool
   lent =
-      leb (3 * length (letters text)) (length vs) && (leb (3 * length (letters text)) (length os) && leb (12 * length (letters text)) (length work))
+      leb (3 * length (letters text)) (length vs) &&
+      (leb (3 * length (letters text)) (length os) && leb (12 * length (letters text)) (length work))
 
   behind-head : Answer
   behind-head = firstBroken (roomRung lent ∷ letterRungs (letters text)) (stringDone (letters text))
 
   split-zero : firstBroken (headRungs text) behind-head .number ≡ 0
   unfolding openAnswer textAnswer behind-head
-  split-zero = ap (λ (x : Answer). x .number) (sym (firstBroken-append (headRungs text) _ (stringDone (letters text)))) ∙ opened-zero
+  split-zero = ap (λ (x : Answer). x .number)
+      (sym (firstBroken-append (headRungs text) _ (stringDone (letters text)))) ∙ opened-zero
 
   pub read-good : Good text
   read-good = good-of text behind-head split-zero
@@ -169,7 +190,8 @@ module _ (text vs os work : List ℕ) (r : Opened) (vs′ os′ work′ : List �
   read-done =
       firstBroken-append (headRungs text) _ (stringDone (letters text)) ∙ good-passes text read-good _
       ∙ whole-passed 2 lent (letterRungs (letters text)) (stringDone (letters text)) (past-head .0)
-      ∙ none-stops (letterRungs (letters text)) (stringDone (letters text)) (stringDone (letters text)) (letters-numbered (letters text)) (past-head .1)
+      ∙ none-stops (letterRungs (letters text)) (stringDone (letters text)) (stringDone (letters text))
+      (letters-numbered (letters text)) (past-head .1)
 
   pub read-gate : r .gate ≡ gateLine text .value
   unfolding opened
@@ -179,19 +201,29 @@ module _ (text vs os work : List ℕ) (r : Opened) (vs′ os′ work′ : List �
   unfolding textOf recordText
   read-text = lines-text text (read-good .lines) ∙ rw (read-good .one, read-good .enough, read-gate)
 
-  pub read-written : (out space : List ℕ) (p : Packed) (out′ space′ : List ℕ) → Packs (letters text) (r .gate) out space p out′ space′
+  pub read-written : (out space : List ℕ) (p : Packed) (out′ space′ : List ℕ)
+      → Packs (letters text) (r .gate) out space p out′ space′
       → length text ≤ length out → 12 * length (letters text) ≤ length space → WrittenBack text p out′
   unfolding packAnswer packed
   read-written out space p out′ space′ packs ht hw =
       let n : length (textOf (letters text) (r .gate)) ≡ length text = sym (ap length read-text) in
-      let room : leb (length (textOf (letters text) (r .gate))) (length out) && leb (12 * length (letters text)) (length space) ≡ true =
-      rw (le-leb (length (textOf (letters text) (r .gate))) (length out) (omega (arith, n)), le-leb (12 * length (letters text)) (length space) hw) in
-      let corner : r .gate < 3 * length (letters text) = omega (arith, read-good .corner, read-good .enough, read-gate) in
+      let room : leb (length (textOf (letters text) (r .gate))) (length out) && leb (12 * length (letters text))
+      (length space) ≡ true =
+      rw (
+        le-leb (length (textOf (letters text) (r .gate))) (length out) (omega (arith, n)),
+        le-leb
+            (12 * length (letters text)) (length space) hw,
+      ) in
+      let corner : r .gate < 3 * length (letters text) = omega
+      (arith, read-good .corner, read-good .enough, read-gate) in
       let a : packAnswer (letters text) (r .gate) (length out) (length space) ≡ stringDone (letters text) =
-      whole-passed 1 (countOk (length (letters text))) _ (stringDone (letters text)) (ap countOk (read-good .enough) ∙ read-good .count)
-      ∙ whole-passed 8 (ltb (r .gate) (3 * length (letters text))) _ (stringDone (letters text)) (lt-ltb (r .gate) (3 * length (letters text)) corner)
+      whole-passed 1 (countOk (length (letters text))) _ (stringDone (letters text))
+      (ap countOk (read-good .enough) ∙ read-good .count)
+      ∙ whole-passed 8 (ltb (r .gate) (3 * length (letters text))) _ (stringDone (letters text))
+      (lt-ltb (r .gate) (3 * length (letters text)) corner)
       ∙ whole-passed 2 _ (letterRungs (letters text)) (stringDone (letters text)) room
-      ∙ none-stops (letterRungs (letters text)) (stringDone (letters text)) (stringDone (letters text)) (letters-numbered (letters text)) (past-head .1) in
+      ∙ none-stops (letterRungs (letters text)) (stringDone (letters text)) (stringDone (letters text))
+      (letters-numbered (letters text)) (past-head .1) in
       let e : p ≡ packed (stringDone (letters text)) (length text) = packs .answer ∙ rw (a, n) in
       let zero : p .number ≡ 0 = packed-number e in
       record {

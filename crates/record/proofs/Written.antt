@@ -68,13 +68,16 @@ module _ (s : List ℕ) (gate : ℕ) (packable : Packable s gate) where
   unfolding whole-text
   form-made = number-line-made formKey triText 1 refl (omega arith)
 
-  tri-made : triLine whole-text ≡ record { good = true; value = length s; size = suc (length triKey + length (decimal (length s))) }
+  tri-made : triLine whole-text ≡ record
+      { good = true; value = length s; size = suc (length triKey + length (decimal (length s))) }
   unfolding triText
   tri-made = ap (numberLine triKey) follows1 ∙ number-line-made triKey gateText (length s) refl (omega (arith, few))
 
-  gate-made : gateLine whole-text ≡ record { good = true; value = gate; size = suc (length gateKey + length (decimal gate)) }
+  gate-made : gateLine whole-text ≡ record
+      { good = true; value = gate; size = suc (length gateKey + length (decimal gate)) }
   unfolding gateText
-  gate-made = ap (numberLine gateKey) follows2 ∙ number-line-made gateKey symText gate refl (omega (arith, few, packable .corner))
+  gate-made = ap (numberLine gateKey) follows2
+      ∙ number-line-made gateKey symText gate refl (omega (arith, few, packable .corner))
 
   letters-made : letters whole-text ≡ s
   unfolding symText

@@ -42,7 +42,8 @@ textAnswer text fits = firstBroken (openRungs text fits) (stringDone (letters te
 -- n and m are the lengths of the lent tables, k that of the work space
 unfoldable pub openAnswer : List ℕ → ℕ → ℕ → ℕ → Answer
 openAnswer text n m k =
-    textAnswer text (leb (3 * length (letters text)) n && (leb (3 * length (letters text)) m && leb (12 * length (letters text)) k))
+    textAnswer text (leb (3 * length (letters text)) n &&
+    (leb (3 * length (letters text)) m && leb (12 * length (letters text)) k))
 
 unfoldable pub opened : Answer → ℕ → Opened
 opened a gate = record { number = a .number; place = a .place; t = a .t; v = a .v; gate = besides a gate }

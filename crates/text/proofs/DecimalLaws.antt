@@ -28,7 +28,8 @@ decimalIn-enough zero (suc g) n h k =
 decimalIn-enough (suc f) zero n h k = rw (lt-ltb n 10 (omega arith))
 decimalIn-enough (suc f) (suc g) n h k = go (decLt n 10) (decimalIn-enough f g (n / 10))
   where
-    go : Dec (n < 10) → (n / 10 ≤ f → n / 10 ≤ g → decimalIn f (n / 10) ≡ decimalIn g (n / 10)) → decimalIn (suc f) n ≡ decimalIn (suc g) n
+    go : Dec (n < 10) → (n / 10 ≤ f → n / 10 ≤ g → decimalIn f (n / 10) ≡ decimalIn g (n / 10))
+        → decimalIn (suc f) n ≡ decimalIn (suc g) n
     go (yes l) ih = rw (lt-ltb n 10 l)
     go (no l) ih = rw (le-ltb n 10 (omega arith), ih (omega arith) (omega arith))
 
@@ -44,7 +45,8 @@ decimal-big (suc n) h =
     rw (le-ltb (suc n) 10 h, decimalIn-enough n (suc n / 10) (suc n / 10) (omega arith) (omega arith))
 
 -- by the number's last digit
-pub decimal-induction : (P : ℕ → Type 0) → ((n : ℕ) → n < 10 → P n) → ((n : ℕ) → 10 ≤ n → P (n / 10) → P n) → (n : ℕ) → P n
+pub decimal-induction : (P : ℕ → Type 0) → ((n : ℕ) → n < 10 → P n) → ((n : ℕ) → 10 ≤ n → P (n / 10) → P n) → (n : ℕ)
+    → P n
 decimal-induction P small big = strong P step
   where
     step : (n : ℕ) → ((m : ℕ) → m < n → P m) → P n
@@ -91,7 +93,8 @@ pub allDigits-append : (l m : List ℕ) → allDigits (l ++ m) ≡ (allDigits l 
 allDigits-append [] m = refl
 allDigits-append (x ∷ l) m = go (isDigit x) (allDigits-append l m)
   where
-    go : (b : Bool) → allDigits (l ++ m) ≡ (allDigits l && allDigits m) → (b && allDigits (l ++ m)) ≡ (b && allDigits l && allDigits m)
+    go : (b : Bool) → allDigits (l ++ m) ≡ (allDigits l && allDigits m)
+        → (b && allDigits (l ++ m)) ≡ (b && allDigits l && allDigits m)
     go true ih = ih
     go false ih = refl
 
@@ -118,7 +121,13 @@ decimal-digits = decimal-induction (λ n. allDigits (decimal n) ≡ true) small 
 
     big : (n : ℕ) → 10 ≤ n → allDigits (decimal (n / 10)) ≡ true → allDigits (decimal n) ≡ true
     big n h ih =
-        rw (decimal-big n h, allDigits-append (decimal (n / 10)) ((48 + n % 10) ∷ []), ih, digit-yes (48 + n % 10) (omega arith) (omega arith))
+        rw (
+          decimal-big n h,
+          allDigits-append (decimal (n / 10)) ((48 + n % 10) ∷ []),
+          ih,
+          digit-yes (48 + n % 10)
+              (omega arith) (omega arith),
+        )
 
 pub decimal-value : (n : ℕ) → value (decimal n) ≡ n
 decimal-value = decimal-induction (λ n. value (decimal n) ≡ n) small big
@@ -139,7 +148,8 @@ decimal-first = decimal-induction (λ n. 1 ≤ n → getD (decimal n) 0 0 ≡ 48
     big : (n : ℕ) → 10 ≤ n → (1 ≤ n / 10 → getD (decimal (n / 10)) 0 0 ≡ 48 → ⊥) → 1 ≤ n → getD (decimal n) 0 0 ≡ 48 → ⊥
     big n h ih k e =
         ih (omega arith)
-        (sym (List·getD-append (decimal (n / 10)) ((48 + n % 10) ∷ []) 0 0 (decimal-some (n / 10))) ∙ (rw (decimal-big n h) at e))
+        (sym (List·getD-append (decimal (n / 10)) ((48 + n % 10) ∷ []) 0 0 (decimal-some (n / 10)))
+        ∙ (rw (decimal-big n h) at e))
 
 pub decimal-leads : (n : ℕ) → leadsWell (decimal n) ≡ true
 decimal-leads n = go (ℕ-discrete n 0)
@@ -151,7 +161,13 @@ decimal-leads n = go (ℕ-discrete n 0)
 pub isNumber-decimal : (n : ℕ) → n < 10000000 → isNumber (decimal n) ≡ true
 unfolding isNumber
 isNumber-decimal n h =
-    rw (le-leb 1 (length (decimal n)) (decimal-some n), le-leb (length (decimal n)) 7 (decimal-length 6 n (omega arith)), decimal-leads n, decimal-digits n)
+    rw (
+      le-leb 1 (length (decimal n)) (decimal-some n),
+      le-leb (length (decimal n)) 7
+          (decimal-length 6 n (omega arith)),
+      decimal-leads n,
+      decimal-digits n,
+    )
 
 pub number-decimal : (n : ℕ) → n < 10000000 → number (decimal n) ≡ found n
 unfolding number

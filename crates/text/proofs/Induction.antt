@@ -8,7 +8,8 @@ use Rattle.theory.specs.Answer.{done}
 use Rattle.theory.specs.Corner.{left}
 use Rattle.theory.specs.declared.Letter.the-variants.{C}
 
-pub snoc-induction : {A : Type 0} (P : List A → Type 0) → P [] → ((xs : List A) (x : A) → P xs → P (xs ++ (x ∷ []))) → (l : List A) → P l
+pub snoc-induction : {A : Type 0} (P : List A → Type 0) → P [] → ((xs : List A) (x : A) → P xs → P (xs ++ (x ∷ [])))
+    → (l : List A) → P l
 snoc-induction {A} P nil step l = go [] l nil
   where
     go : (done : List A) (left : List A) → P done → P (done ++ left)

@@ -27,7 +27,8 @@ starts-made (k ∷ key) v = rw (eq-eqb k k refl) (starts-made key v)
 pub starts-split : (key l : List ℕ) → starts key l ≡ true → l ≡ key ++ drop (length key) l
 starts-split [] l e = refl
 starts-split (k ∷ key) [] e = absurd (let z : _≡_ {A = ℕ} 0 1 = cc in omega arith)
-starts-split (k ∷ key) (x ∷ l) e = cons (eqb-true x k (and-left (eqb x k) (starts key l) e)) (starts-split key l (and-right (eqb x k) (starts key l) e))
+starts-split (k ∷ key) (x ∷ l) e = cons (eqb-true x k (and-left (eqb x k) (starts key l) e))
+    (starts-split key l (and-right (eqb x k) (starts key l) e))
   where
     cons : x ≡ k → l ≡ key ++ drop (length key) l → x ∷ l ≡ k ∷ (key ++ drop (length key) l)
     cons p q i = p i ∷ q i
@@ -36,7 +37,8 @@ starts-split (k ∷ key) (x ∷ l) e = cons (eqb-true x k (and-left (eqb x k) (s
 pub keyed-split : (key l : List ℕ) → isKeyed key l ≡ true → l ≡ key ++ (valueOf key l ++ lineEnd ∷ after l)
 unfolding isKeyed
 keyed-split key l e =
-    let ended : upTo lineEnd l < length l = ltb-true _ _ (and-left (ltb (upTo lineEnd l) (length l)) (starts key (line l)) e) in
+    let ended : upTo lineEnd l < length l = ltb-true _ _
+    (and-left (ltb (upTo lineEnd l) (length l)) (starts key (line l)) e) in
     let begins : starts key (line l) ≡ true = and-right (ltb (upTo lineEnd l) (length l)) (starts key (line l)) e in
     up-split lineEnd l ended ∙ ap (λ (m : List ℕ). m ++ lineEnd ∷ after l) (starts-split key (line l) begins)
     ∙ append-assoc key (valueOf key l) (lineEnd ∷ after l)
@@ -46,8 +48,10 @@ pub keyed-lacks : (key l : List ℕ) → isKeyed key l ≡ true → lacks lineEn
 unfolding isKeyed
 keyed-lacks key l e =
     let begins : starts key (line l) ≡ true = and-right (ltb (upTo lineEnd l) (length l)) (starts key (line l)) e in
-    let whole : lacks lineEnd (key ++ valueOf key l) ≡ true = subst (λ (m : List ℕ). lacks lineEnd m ≡ true) (starts-split key (line l) begins) (line-lacks lineEnd l) in
-    and-right (lacks lineEnd key) (lacks lineEnd (valueOf key l)) (sym (lacks-append lineEnd key (valueOf key l)) ∙ whole)
+    let whole : lacks lineEnd (key ++ valueOf key l) ≡ true = subst (λ (m : List ℕ). lacks lineEnd m ≡ true)
+    (starts-split key (line l) begins) (line-lacks lineEnd l) in
+    and-right (lacks lineEnd key) (lacks lineEnd (valueOf key l))
+    (sym (lacks-append lineEnd key (valueOf key l)) ∙ whole)
 
 pub keyed-ended : (key l : List ℕ) → isKeyed key l ≡ true → upTo lineEnd l < length l
 unfolding isKeyed
@@ -57,7 +61,8 @@ pub keyed-fits : (key l : List ℕ) → isKeyed key l ≡ true → length key �
 unfolding isKeyed
 keyed-fits key l e =
     let begins : starts key (line l) ≡ true = and-right (ltb (upTo lineEnd l) (length l)) (starts key (line l)) e in
-    let q : length (line l) ≡ length key + length (valueOf key l) = ap length (starts-split key (line l) begins) ∙ length-append key (valueOf key l) in
+    let q : length (line l) ≡ length key + length (valueOf key l) = ap length (starts-split key (line l) begins)
+    ∙ length-append key (valueOf key l) in
     omega (arith, q, length-take-le (upTo lineEnd l) l (up-le lineEnd l))
 
 module _ (key v r : List ℕ) (hk : lacks lineEnd key ≡ true) (hv : lacks lineEnd v ≡ true) where
@@ -69,7 +74,8 @@ module _ (key v r : List ℕ) (hk : lacks lineEnd key ≡ true) (hv : lacks line
 
   pub keyed-made : isKeyed key (key ++ (v ++ lineEnd ∷ r)) ≡ true
   unfolding isKeyed
-  keyed-made = rw (together, ended-made (key ++ v) r whole-lacks, line-made (key ++ v) r whole-lacks) (starts-made key v)
+  keyed-made = rw (together, ended-made (key ++ v) r whole-lacks, line-made (key ++ v) r whole-lacks)
+      (starts-made key v)
 
   pub valueOf-made : valueOf key (key ++ (v ++ lineEnd ∷ r)) ≡ v
   valueOf-made = rw (together, line-made (key ++ v) r whole-lacks) (drop-append-seam key v)

@@ -30,7 +30,8 @@ up-le b (x ∷ l) = go (eqb x b) (up-le b l)
     go false ih = omega arith
 
 module _ (b : ℕ) (s : List ℕ) (i : ℕ) where
-  pub up-turn : i < length s → (getD s i 0 ≡ b → ⊥) → upTo b s ≡ i + upTo b (drop i s) → upTo b s ≡ i + 1 + upTo b (drop (i + 1) s)
+  pub up-turn : i < length s → (getD s i 0 ≡ b → ⊥) → upTo b s ≡ i + upTo b (drop i s)
+      → upTo b s ≡ i + 1 + upTo b (drop (i + 1) s)
   up-turn h n e = rw (add-one i) (omega (arith, rw (drop-cons s i 0 h, ne-eqb (getD s i 0) b n) at e))
 
   pub up-stop : i < length s → getD s i 0 ≡ b → upTo b s ≡ i + upTo b (drop i s) → i ≡ upTo b s
@@ -48,7 +49,8 @@ module _ (key s : List ℕ) (i : ℕ) (e : starts key s ≡ starts (drop i key) 
   pub starts-differ : i < length key → i < length s → (getD s i 0 ≡ getD key i 0 → ⊥) → false ≡ starts key s
   starts-differ h k n = sym (e ∙ rw (drop-cons key i 0 h, drop-cons s i 0 k, ne-eqb (getD s i 0) (getD key i 0) n))
 
-  pub starts-next : i < length key → i < length s → getD s i 0 ≡ getD key i 0 → starts key s ≡ starts (drop (i + 1) key) (drop (i + 1) s)
+  pub starts-next : i < length key → i < length s → getD s i 0 ≡ getD key i 0
+      → starts key s ≡ starts (drop (i + 1) key) (drop (i + 1) s)
   starts-next h k q = e ∙ rw (add-one i, drop-cons key i 0 h, drop-cons s i 0 k, eq-eqb (getD s i 0) (getD key i 0) q)
 
   pub starts-end : length key ≤ i → true ≡ starts key s
@@ -60,7 +62,8 @@ pub lacks-append : (b : ℕ) (l m : List ℕ) → lacks b (l ++ m) ≡ (lacks b 
 lacks-append b [] m = refl
 lacks-append b (x ∷ l) m = go (not (eqb x b)) (lacks-append b l m)
   where
-    go : (t : Bool) → lacks b (l ++ m) ≡ (lacks b l && lacks b m) → (t && lacks b (l ++ m)) ≡ (t && lacks b l && lacks b m)
+    go : (t : Bool) → lacks b (l ++ m) ≡ (lacks b l && lacks b m)
+        → (t && lacks b (l ++ m)) ≡ (t && lacks b l && lacks b m)
     go true ih = ih
     go false ih = refl
 
@@ -74,7 +77,8 @@ pub up-made : (b : ℕ) (v r : List ℕ) → lacks b v ≡ true → upTo b (v ++
 up-made b [] r h = rw (eq-eqb b b refl)
 up-made b (x ∷ v) r h = go (eqb x b) h (up-made b v r)
   where
-    go : (t : Bool) → (not t && lacks b v) ≡ true → (lacks b v ≡ true → upTo b (v ++ b ∷ r) ≡ length v) → cond t 0 (suc (upTo b (v ++ b ∷ r))) ≡ suc (length v)
+    go : (t : Bool) → (not t && lacks b v) ≡ true → (lacks b v ≡ true → upTo b (v ++ b ∷ r) ≡ length v)
+        → cond t 0 (suc (upTo b (v ++ b ∷ r))) ≡ suc (length v)
     go true e ih = absurd (no-true e)
       where
         no-true : false ≡ true → ⊥
@@ -85,7 +89,8 @@ pub line-lacks : (b : ℕ) (l : List ℕ) → lacks b (take (upTo b l) l) ≡ tr
 line-lacks b [] = refl
 line-lacks b (x ∷ l) = go (eqb x b) refl (line-lacks b l)
   where
-    go : (t : Bool) → eqb x b ≡ t → lacks b (take (upTo b l) l) ≡ true → lacks b (take (cond t 0 (suc (upTo b l))) (x ∷ l)) ≡ true
+    go : (t : Bool) → eqb x b ≡ t → lacks b (take (upTo b l) l) ≡ true
+        → lacks b (take (cond t 0 (suc (upTo b l))) (x ∷ l)) ≡ true
     go true e ih = refl
     go false e ih = rw e ih
 
@@ -93,7 +98,8 @@ pub up-split : (b : ℕ) (l : List ℕ) → upTo b l < length l → l ≡ take (
 up-split b [] h = absurd (omega arith)
 up-split b (x ∷ l) h = go (eqb x b) refl h (up-split b l)
   where
-    go : (t : Bool) → eqb x b ≡ t → cond t 0 (suc (upTo b l)) < length (x ∷ l) → (upTo b l < length l → l ≡ take (upTo b l) l ++ b ∷ drop (suc (upTo b l)) l)
+    go : (t : Bool) → eqb x b ≡ t → cond t 0 (suc (upTo b l)) < length (x ∷ l)
+        → (upTo b l < length l → l ≡ take (upTo b l) l ++ b ∷ drop (suc (upTo b l)) l)
         → x ∷ l ≡ take (cond t 0 (suc (upTo b l))) (x ∷ l) ++ b ∷ drop (suc (cond t 0 (suc (upTo b l)))) (x ∷ l)
     go true e k ih = ap (λ (y : ℕ). y ∷ l) (eqb-true x b e)
     go false e k ih = ap (λ (m : List ℕ). x ∷ m) (ih (omega arith))
@@ -105,7 +111,9 @@ module _ (v r : List ℕ) (h : lacks lineEnd v ≡ true) where
   pub after-made : after (v ++ lineEnd ∷ r) ≡ r
   after-made =
       rw (up-made lineEnd v r h)
-      (ap (drop (suc (length v))) (sym (append-assoc v (lineEnd ∷ []) r)) ∙ drop-at (v ++ (lineEnd ∷ [])) r (suc (length v)) (omega (arith, length-append v (lineEnd ∷ []))))
+      (ap (drop (suc (length v))) (sym (append-assoc v (lineEnd ∷ []) r))
+      ∙ drop-at (v ++ (lineEnd ∷ [])) r (suc (length v)) (omega (arith, length-append v (lineEnd ∷ []))))
 
   pub ended-made : ltb (upTo lineEnd (v ++ lineEnd ∷ r)) (length (v ++ lineEnd ∷ r)) ≡ true
-  ended-made = lt-ltb (upTo lineEnd (v ++ lineEnd ∷ r)) (length (v ++ lineEnd ∷ r)) (omega (arith, up-made lineEnd v r h, length-append v (lineEnd ∷ r)))
+  ended-made = lt-ltb (upTo lineEnd (v ++ lineEnd ∷ r)) (length (v ++ lineEnd ∷ r))
+      (omega (arith, up-made lineEnd v r h, length-append v (lineEnd ∷ r)))

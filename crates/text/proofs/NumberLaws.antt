@@ -54,7 +54,8 @@ decimal-of-value = snoc-induction P (λ h. absurd (omega arith)) step
     step (y ∷ ys) x ih h a z =
         let split : (allDigits (y ∷ ys) && allDigits (x ∷ [])) ≡ true = sym (allDigits-append (y ∷ ys) (x ∷ [])) ∙ a in
         let front : allDigits (y ∷ ys) ≡ true = and-left (allDigits (y ∷ ys)) (allDigits (x ∷ [])) split in
-        let d : isDigit x ≡ true = and-left (isDigit x) true (and-right (allDigits (y ∷ ys)) (allDigits (x ∷ [])) split) in
+        let d : isDigit x ≡ true = and-left (isDigit x) true
+        (and-right (allDigits (y ∷ ys)) (allDigits (x ∷ [])) split) in
         let low : 48 ≤ x = digit-low x d in
         let high : x ≤ 57 = digit-high x d in
         let m : ℕ = value (y ∷ ys) in
@@ -63,7 +64,8 @@ decimal-of-value = snoc-induction P (λ h. absurd (omega arith)) step
         let q : (m * 10 + (x - 48)) / 10 ≡ m = omega arith in
         let r : 48 + (m * 10 + (x - 48)) % 10 ≡ x = omega arith in
         ap decimal v ∙ decimal-big (m * 10 + (x - 48)) (omega arith)
-        ∙ ap (λ (k : ℕ). decimal k ++ ((48 + (m * 10 + (x - 48)) % 10) ∷ [])) q ∙ ap (λ (b : ℕ). decimal m ++ (b ∷ [])) r
+        ∙ ap (λ (k : ℕ). decimal k ++ ((48 + (m * 10 + (x - 48)) % 10) ∷ [])) q
+        ∙ ap (λ (b : ℕ). decimal m ++ (b ∷ [])) r
         ∙ ap (λ (l : List ℕ). l ++ (x ∷ [])) (ih (omega arith) front z)
 
 zero-value : 0 * 10 + (48 - 48) ≡ 0
@@ -85,16 +87,22 @@ number-good l e = go l some leads digits (ℕ-discrete (getD l 0 0) 48)
     digits : allDigits l ≡ true
     digits = and-right (leadsWell l) (allDigits l) tail
 
-    go : (l : List ℕ) → 1 ≤ length l → leadsWell l ≡ true → allDigits l ≡ true → Dec (getD l 0 0 ≡ 48) → decimal (value l) ≡ l
+    go : (l : List ℕ) → 1 ≤ length l → leadsWell l ≡ true → allDigits l ≡ true → Dec (getD l 0 0 ≡ 48)
+        → decimal (value l) ≡ l
     go l s q d (no z) = decimal-of-value l s d z
     go [] s q d (yes z) = absurd (omega arith)
     go (x ∷ []) s q d (yes z) = rw z (ap decimal zero-value ∙ decimal-small 0 (omega arith))
     go (x ∷ y ∷ l) s q d (yes z) =
-        absurd (omega (arith, leb-true (length (x ∷ y ∷ l)) 1 (sym (ap (λ (b : Bool). cond b (leb (length (x ∷ y ∷ l)) 1) true) (eq-eqb x 48 z)) ∙ q)))
+        absurd (omega (
+          arith,
+          leb-true (length (x ∷ y ∷ l)) 1
+              (sym (ap (λ (b : Bool). cond b (leb (length (x ∷ y ∷ l)) 1) true) (eq-eqb x 48 z)) ∙ q),
+        ))
 
 -- ---- how large
 
-pub value-bound : (l : List ℕ) (i k n : ℕ) → allDigits l ≡ true → n < tens i → k ≡ i + length l → valueAfter n l < tens k
+pub value-bound : (l : List ℕ) (i k n : ℕ) → allDigits l ≡ true → n < tens i → k ≡ i + length l
+    → valueAfter n l < tens k
 value-bound [] i k n a h e =
     let q : k ≡ i = omega arith in
     rw q h
@@ -119,8 +127,10 @@ tens-seven i h = tens-mono (7 - i) i 7 (omega arith)
 pub number-small : (l : List ℕ) → isNumber l ≡ true → value l < 10000000
 unfolding isNumber
 number-small l e =
-    let seven : length l ≤ 7 = leb-true (length l) 7 (and-left (leb (length l) 7) _ (and-right (leb 1 (length l)) _ e)) in
-    let digits : allDigits l ≡ true = and-right (leadsWell l) (allDigits l) (and-right (leb (length l) 7) _ (and-right (leb 1 (length l)) _ e)) in
+    let seven : length l ≤ 7 = leb-true (length l) 7
+    (and-left (leb (length l) 7) _ (and-right (leb 1 (length l)) _ e)) in
+    let digits : allDigits l ≡ true = and-right (leadsWell l) (allDigits l)
+    (and-right (leb (length l) 7) _ (and-right (leb 1 (length l)) _ e)) in
     omega (arith, value-bound l 0 (length l) 0 digits (omega arith) (omega arith), tens-seven (length l) seven)
 
 -- ---- what the reader answers

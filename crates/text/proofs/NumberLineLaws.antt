@@ -25,7 +25,8 @@ use Rattle.theory.specs.Word.{size}
 -- ---- lines with numbers
 
 pub number-line-made : (key r : List ℕ) (n : ℕ) → lacks lineEnd key ≡ true → n < 10000000
-    → numberLine key (key ++ (decimal n ++ lineEnd ∷ r)) ≡ record { good = true; value = n; size = suc (length key + length (decimal n)) }
+    → numberLine key (key ++ (decimal n ++ lineEnd ∷ r)) ≡ record
+    { good = true; value = n; size = suc (length key + length (decimal n)) }
 unfolding numberLine
 number-line-made key r n hk h =
     let hv : lacks lineEnd (decimal n) ≡ true = lacks-digits (decimal n) (decimal-digits n) in
@@ -51,12 +52,18 @@ unfolding numberLine
 number-line-split key l e = go ((isKeyed key l && isNumber (valueOf key l))) refl e
   where
     go : (t : Bool) → (isKeyed key l && isNumber (valueOf key l)) ≡ t
-        → (cond t (record { good = true; value = value (valueOf key l); size = suc (upTo lineEnd l) }) badLine) .good ≡ true → GoodLine key l
-    go true q e = record { keyed = and-left (isKeyed key l) (isNumber (valueOf key l)) q; numeric = and-right (isKeyed key l) (isNumber (valueOf key l)) q }
+        → (cond t (record { good = true; value = value (valueOf key l); size = suc (upTo lineEnd l) }) badLine) .good
+        ≡ true → GoodLine key l
+    go true q e = record {
+      keyed = and-left (isKeyed key l) (isNumber (valueOf key l)) q;
+      numeric = and-right
+          (isKeyed key l) (isNumber (valueOf key l)) q;
+    }
     go false q e = absurd (let z : _≡_ {A = ℕ} 0 1 = cc in omega arith)
 
 module _ (key l : List ℕ) (good : GoodLine key l) where
-  pub good-answer : numberLine key l ≡ record { good = true; value = value (valueOf key l); size = suc (upTo lineEnd l) }
+  pub good-answer : numberLine key l ≡ record
+      { good = true; value = value (valueOf key l); size = suc (upTo lineEnd l) }
   unfolding numberLine
   good-answer = rw (good .keyed, good .numeric)
 

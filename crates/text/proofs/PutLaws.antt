@@ -36,18 +36,27 @@ module _ (out : List ℕ) (at : ℕ) where
   pub length-put : (s : List ℕ) → at + length s ≤ length out → length (put out at s) ≡ length out
   length-put s h =
       rw (put-cut s)
-      (omega (arith, length-append (take at out ++ s) (drop (at + length s) out), head-length s (omega arith), length-drop (at + length s) out))
+      (omega (
+        arith,
+        length-append (take at out ++ s) (drop (at + length s) out),
+        head-length s
+            (omega arith),
+        length-drop (at + length s) out,
+      ))
 
   pub put-paste : (s : List ℕ) → paste out at s (length s) ≡ put out at s
   put-paste s = rw (put-cut s, take-length s)
 
   pub take-put : (s : List ℕ) → at ≤ length out → take (at + length s) (put out at s) ≡ take at out ++ s
-  take-put s h = rw (put-cut s) (take-at (take at out ++ s) (drop (at + length s) out) (at + length s) (head-length s h))
+  take-put s h = rw (put-cut s) (take-at (take at out ++ s) (drop (at + length s) out) (at + length s)
+      (head-length s h))
 
   pub drop-put : (s : List ℕ) → at ≤ length out → drop (at + length s) (put out at s) ≡ drop (at + length s) out
-  drop-put s h = rw (put-cut s) (drop-at (take at out ++ s) (drop (at + length s) out) (at + length s) (head-length s h))
+  drop-put s h = rw (put-cut s) (drop-at (take at out ++ s) (drop (at + length s) out) (at + length s)
+      (head-length s h))
 
-  put-behind : (l a b : List ℕ) → take (at + length a) l ≡ take at out ++ a → drop (at + length a + length b) l ≡ drop (at + length (a ++ b)) out
+  put-behind : (l a b : List ℕ) → take (at + length a) l ≡ take at out ++ a
+      → drop (at + length a + length b) l ≡ drop (at + length (a ++ b)) out
       → put l (at + length a) b ≡ put out at (a ++ b)
   unfolding put
   put-behind l a b e d =
@@ -64,7 +73,8 @@ module _ (out : List ℕ) (at : ℕ) where
       ∙ ap (λ (k : ℕ). drop k out) q in
       put-behind (put out at a) a b (take-put a h) behind
 
-  pub put-last : (s : List ℕ) (d i : ℕ) → at + length s ≡ i → i < length out → put out at (s ++ (d ∷ [])) ≡ put (set out i d) at s
+  pub put-last : (s : List ℕ) (d i : ℕ) → at + length s ≡ i → i < length out
+      → put out at (s ++ (d ∷ [])) ≡ put (set out i d) at s
   unfolding put
   put-last s d i e h =
       let p : at + length (s ++ (d ∷ [])) ≡ suc i = omega (arith, length-append s (d ∷ [])) in
@@ -82,16 +92,24 @@ module _ (before : List ℕ) (at : ℕ) (a b : List ℕ) where
   pub room-first : at + length (a ++ b) ≤ length before → at + length a ≤ length before
   room-first h = omega (arith, length-append a b)
 
-  module _ (h : at + length (a ++ b) ≤ length before) (middle : List ℕ) (m : ℕ) (first : Wrote before at a middle m) where
+  module _ (h : at + length (a ++ b) ≤ length before) (middle : List ℕ) (m : ℕ)
+      (first : Wrote before at a middle m) where
     pub wrote-room : m + length b ≤ length middle
-    wrote-room = omega (arith, first .place, length-append a b, ap length (first .text) ∙ length-put before at a (room-first h))
+    wrote-room = omega (
+      arith,
+      first .place,
+      length-append a b,
+      ap length (first .text)
+          ∙ length-put before at a (room-first h),
+    )
 
     pub wrote-append : (after : List ℕ) (r : ℕ) → Wrote middle m b after r → Wrote before at (a ++ b) after r
     wrote-append after r second = record {
       place = omega (arith, first .place, second .place, length-append a b);
       text =
           second .text ∙ ap (λ (l : List ℕ). put l m b) (first .text)
-          ∙ ap (λ (k : ℕ). put (put before at a) k b) (first .place) ∙ put-append before at a b (omega (arith, length-append a b));
+          ∙ ap (λ (k : ℕ). put (put before at a) k b) (first .place)
+          ∙ put-append before at a b (omega (arith, length-append a b));
     }
 
 -- three writers, and four
@@ -111,7 +129,8 @@ module _ (l : List ℕ) (at : ℕ) (a b c : List ℕ) (h : at + length (a ++ b +
       three-third = wrote-room l at (a ++ b) c h l2 p2 (wrote-append l at a b ab l1 p1 w1 l2 p2 w2)
 
       pub three-done : {l3 : List ℕ} {p3 : ℕ} → Wrote l2 p2 c l3 p3 → Wrote l at (a ++ b ++ c) l3 p3
-      three-done {l3} {p3} w3 = wrote-append l at (a ++ b) c h l2 p2 (wrote-append l at a b ab l1 p1 w1 l2 p2 w2) l3 p3 w3
+      three-done {l3} {p3} w3 = wrote-append l at (a ++ b) c h l2 p2
+          (wrote-append l at a b ab l1 p1 w1 l2 p2 w2) l3 p3 w3
 
 module _ (l : List ℕ) (at : ℕ) (a b c d : List ℕ) (h : at + length (a ++ b ++ c ++ d) ≤ length l) where
   abc : at + length (a ++ b ++ c) ≤ length l
@@ -143,7 +162,8 @@ put-start out s =
     rw q
 
 -- what a writer wrote into a buffer that kept its length lies inside
-pub put-inside : (out : List ℕ) (at : ℕ) (s : List ℕ) → length (put out at s) ≡ length out → at ≤ length out → at + length s ≤ length out
+pub put-inside : (out : List ℕ) (at : ℕ) (s : List ℕ) → length (put out at s) ≡ length out → at ≤ length out
+    → at + length s ≤ length out
 unfolding put
 put-inside out at s e h =
     omega (

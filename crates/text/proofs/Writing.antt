@@ -17,7 +17,8 @@ pub record Writing (before : List ℕ) (at n : ℕ) (out : List ℕ) (i m : ℕ)
   pub place : suc i ≡ at + length (decimal m)
   pub answer : put before at (decimal n) ≡ put out at (decimal m)
 
-pub writing-start : (out : List ℕ) (at n e : ℕ) → e ≡ length (decimal n) → at + length (decimal n) ≤ length out → Writing out at n out (at + e - 1) n
+pub writing-start : (out : List ℕ) (at n e : ℕ) → e ≡ length (decimal n) → at + length (decimal n) ≤ length out
+    → Writing out at n out (at + e - 1) n
 writing-start out at n e q h = record {
   same = refl;
   inside = omega (arith, decimal-some n);

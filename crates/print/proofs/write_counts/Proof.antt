@@ -1,18 +1,13 @@
+-- `write_counts` meets its contract. Four writers, one after another.
 use borrow.Author.Needs.{needs}
 use Rattle.print.specs.Printed.{countsLine, ended, gatePiece, triPiece, verPiece}
 use Rattle.text.proofs.PutLaws.{four-done, four-first, four-fourth, four-second, four-third}
 use Rattle.print.proofs.write_counts.Statement.{statement}
 use Rattle.print.proofs.write_counts.Tie as tie
-use Rattle.print.proofs.write_counts.Reads as reads
-use Rattle.print.proofs.write_counts.Lts as lts
-use Rattle.print.proofs.write_numbered.Reads as write-numbered-reads
-use Rattle.text.proofs.write_bytes.Reads as write-bytes-reads
 
--- src/lib.rt:30:37
 slice-aggregate-write-numbered : tie.Need-slice-aggregate-write-numbered
 slice-aggregate-write-numbered c = search needs
 
--- src/lib.rt:30:9
 write-numbered-requires : tie.Need-write-numbered-requires
 unfolding countsLine
 write-numbered-requires c κs =
@@ -20,11 +15,9 @@ write-numbered-requires c κs =
     let a = s .args in
     four-first (a .out .now) (a .at) (triPiece (a .t)) (verPiece (a .v)) (gatePiece (a .gate)) ended (s .pre)
 
--- src/lib.rt:31:36
 slice-aggregate-write-numbered-2 : tie.Need-slice-aggregate-write-numbered-2
 slice-aggregate-write-numbered-2 c = search needs
 
--- src/lib.rt:31:9
 write-numbered-requires-2 : tie.Need-write-numbered-requires-2
 unfolding countsLine
 write-numbered-requires-2 c κs =
@@ -33,24 +26,21 @@ write-numbered-requires-2 c κs =
     four-second (a .out .now) (a .at) (triPiece (a .t)) (verPiece (a .v)) (gatePiece (a .gate)) ended (s .pre)
     (c .before .before .before .before .write-numbered .ensures)
 
--- src/lib.rt:32:36
 slice-aggregate-write-numbered-3 : tie.Need-slice-aggregate-write-numbered-3
 slice-aggregate-write-numbered-3 c = search needs
 
--- src/lib.rt:32:9
 write-numbered-requires-3 : tie.Need-write-numbered-requires-3
 unfolding countsLine
 write-numbered-requires-3 c κs =
     let s = c .before .before .before .before .before .before .before .before .before .before .before .before .before in
     let a = s .args in
     four-third (a .out .now) (a .at) (triPiece (a .t)) (verPiece (a .v)) (gatePiece (a .gate)) ended (s .pre)
-    (c .before .before .before .before .before .before .before .before .before .write-numbered .ensures) (c .before .before .before .before .write-numbered2 .ensures)
+    (c .before .before .before .before .before .before .before .before .before .write-numbered .ensures)
+    (c .before .before .before .before .write-numbered2 .ensures)
 
--- src/lib.rt:33:31
 slice-aggregate-write-bytes : tie.Need-slice-aggregate-write-bytes
 slice-aggregate-write-bytes c = search needs
 
--- src/lib.rt:33:5
 write-bytes-requires : tie.Need-write-bytes-requires
 unfolding countsLine
 write-bytes-requires c κs =
@@ -59,11 +49,9 @@ write-bytes-requires c κs =
     four-fourth (a .out .now) (a .at) (triPiece (a .t)) (verPiece (a .v)) (gatePiece (a .gate)) ended (s .pre)
     (c .before .before .before .before .before .before .before .before .before .before .before .before .before .before .write-numbered .ensures) (c .before .before .before .before .before .before .before .before .before .write-numbered2 .ensures) (c .before .before .before .before .write-numbered3 .ensures)
 
--- src/lib.rt:26:1
 same-length : tie.Need-same-length
 same-length c = search needs
 
--- src/lib.rt:26:1
 returns : tie.Need-returns
 unfolding countsLine
 returns c =

@@ -1,16 +1,13 @@
+-- `open` meets its contract. One test of the number.
 use borrow.Author.Tests.{eq-eqb, ne-eqb}
 use Rattle.record.specs.Calls.{opened}
 use Rattle.record.proofs.open.Statement.{statement}
 use Rattle.record.proofs.open.Tie as tie
-use Rattle.record.proofs.open.Reads as reads
-use Rattle.record.proofs.open.Lts as lts
 
--- src/lib.rt:62:9
 returns : tie.Need-returns
 unfolding opened
 returns c = rw (ne-eqb _ _ (c .if1 .taken))
 
--- src/lib.rt:58:1
 returns-2 : tie.Need-returns-2
 unfolding opened
 returns-2 c = rw (eq-eqb _ _ (c .if1 .left))

@@ -1,16 +1,13 @@
+-- `pack` meets its contract. One test of the number.
 use borrow.Author.Tests.{eq-eqb, ne-eqb}
 use Rattle.record.specs.Calls.{packed}
 use Rattle.record.proofs.pack.Statement.{statement}
 use Rattle.record.proofs.pack.Tie as tie
-use Rattle.record.proofs.pack.Reads as reads
-use Rattle.record.proofs.pack.Lts as lts
 
--- src/lib.rt:186:9
 returns : tie.Need-returns
 unfolding packed
 returns c = rw (ne-eqb _ _ (c .if1 .taken))
 
--- src/lib.rt:182:1
 returns-2 : tie.Need-returns-2
 unfolding packed
 returns-2 c = rw (eq-eqb _ _ (c .if1 .left))

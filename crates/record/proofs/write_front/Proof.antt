@@ -1,19 +1,14 @@
+-- `write_front` meets its contract. Four writers, one after another.
 use borrow.Author.Needs.{needs}
 use Rattle.record.specs.Head.{endGate, formTri, frontText}
 use Rattle.text.proofs.PutLaws.{four-done, four-first, four-fourth, four-second, four-third}
 use Rattle.text.specs.Decimal.{decimal}
 use Rattle.record.proofs.write_front.Statement.{statement}
 use Rattle.record.proofs.write_front.Tie as tie
-use Rattle.record.proofs.write_front.Reads as reads
-use Rattle.record.proofs.write_front.Lts as lts
-use Rattle.text.proofs.write_bytes.Reads as write-bytes-reads
-use Rattle.text.proofs.write_decimal.Reads as write-decimal-reads
 
--- src/lib.rt:110:40
 slice-aggregate-write-bytes : tie.Need-slice-aggregate-write-bytes
 slice-aggregate-write-bytes c = search needs
 
--- src/lib.rt:110:9
 write-bytes-requires : tie.Need-write-bytes-requires
 unfolding frontText
 write-bytes-requires c κs =
@@ -21,7 +16,6 @@ write-bytes-requires c κs =
     let a = s .args in
     four-first (a .out .now) (a .at) formTri (decimal (a .t)) endGate (decimal (a .gate)) (s .pre)
 
--- src/lib.rt:111:9
 write-decimal-requires : tie.Need-write-decimal-requires
 unfolding frontText
 write-decimal-requires c κs =
@@ -30,20 +24,18 @@ write-decimal-requires c κs =
     four-second (a .out .now) (a .at) formTri (decimal (a .t)) endGate (decimal (a .gate)) (s .pre)
     (c .before .before .before .write-bytes .ensures)
 
--- src/lib.rt:112:39
 slice-aggregate-write-bytes-2 : tie.Need-slice-aggregate-write-bytes-2
 slice-aggregate-write-bytes-2 c = search needs
 
--- src/lib.rt:112:9
 write-bytes-requires-2 : tie.Need-write-bytes-requires-2
 unfolding frontText
 write-bytes-requires-2 c κs =
     let s = c .before .before .before .before .before .before .before .before .before .before .before .before in
     let a = s .args in
     four-third (a .out .now) (a .at) formTri (decimal (a .t)) endGate (decimal (a .gate)) (s .pre)
-    (c .before .before .before .before .before .before .before .before .write-bytes .ensures) (c .before .before .before .before .write-decimal .ensures)
+    (c .before .before .before .before .before .before .before .before .write-bytes .ensures)
+    (c .before .before .before .before .write-decimal .ensures)
 
--- src/lib.rt:113:5
 write-decimal-requires-2 : tie.Need-write-decimal-requires-2
 unfolding frontText
 write-decimal-requires-2 c κs =
@@ -52,11 +44,9 @@ write-decimal-requires-2 c κs =
     four-fourth (a .out .now) (a .at) formTri (decimal (a .t)) endGate (decimal (a .gate)) (s .pre)
     (c .before .before .before .before .before .before .before .before .before .before .before .before .write-bytes .ensures) (c .before .before .before .before .before .before .before .before .write-decimal .ensures) (c .before .before .before .write-bytes2 .ensures)
 
--- src/lib.rt:106:1
 same-length : tie.Need-same-length
 same-length c = search needs
 
--- src/lib.rt:106:1
 returns : tie.Need-returns
 unfolding frontText
 returns c =

@@ -29,7 +29,8 @@ returns-2 c =
     let a = c .before .before .before .before .before .before .before .args in
     let u = c .before .before .before .before .up-to in
     keyed-other _ _ (omega (arith, u .ensures))
-    (sym (ap (λ k. starts (a .key .now) (take k (a .s .now))) (u .ensures)) ∙ sym (c .before .starts-with .ensures) ∙ not-true _ (c .if2 .taken))
+    (sym (ap (λ k. starts (a .key .now) (take k (a .s .now))) (u .ensures)) ∙ sym (c .before .starts-with .ensures)
+    ∙ not-true _ (c .if2 .taken))
 
 add-result : tie.Need-add-result
 add-result c = search needs
@@ -39,7 +40,8 @@ returns-3 c =
     let a = c .before .before .before .before .before .before .before .args in
     let u = c .before .before .before .before .up-to in
     add-one _ ∙ ap suc (u .ensures) ∙ keyed-here _ _ (omega (arith, u .ensures))
-    (sym (ap (λ k. starts (a .key .now) (take k (a .s .now))) (u .ensures)) ∙ sym (c .before .starts-with .ensures) ∙ not-false _ (c .if2 .left))
+    (sym (ap (λ k. starts (a .key .now) (take k (a .s .now))) (u .ensures)) ∙ sym (c .before .starts-with .ensures)
+    ∙ not-false _ (c .if2 .left))
 
 pub keyed-size-spec : {M : Type 1} → statement M
 keyed-size-spec =

@@ -30,12 +30,14 @@ number-of-requires c κs = search needs
 returns-2 : tie.Need-returns-2
 returns-2 c =
     let t = c .before .before .before .before in
-    line-bad _ _ _ (t .before .keyed-size .ensures) (t .if1 .left) _ (c .before .before .number-of .ensures) (not-true _ (c .if2 .taken))
+    line-bad _ _ _ (t .before .keyed-size .ensures) (t .if1 .left) _ (c .before .before .number-of .ensures)
+    (not-true _ (c .if2 .taken))
 
 returns-3 : tie.Need-returns-3
 returns-3 c =
     let t = c .before .before .before .before in
-    line-good _ _ _ (t .before .keyed-size .ensures) (t .if1 .left) _ (c .before .before .number-of .ensures) (not-false _ (c .if2 .left))
+    line-good _ _ _ (t .before .keyed-size .ensures) (t .if1 .left) _ (c .before .before .number-of .ensures)
+    (not-false _ (c .if2 .left))
 
 pub number-line-spec : {M : Type 1} → statement M
 number-line-spec =

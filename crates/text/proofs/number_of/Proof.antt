@@ -17,13 +17,16 @@ leads-well-requires : tie.Need-leads-well-requires
 leads-well-requires c κs = search needs
 
 returns-3 : tie.Need-returns-3
-returns-3 c = number-zero _ (omega arith) (omega arith) (sym (c .before .leads-well .ensures) ∙ not-true _ (c .if3 .taken))
+returns-3 c = number-zero _ (omega arith) (omega arith)
+    (sym (c .before .leads-well .ensures) ∙ not-true _ (c .if3 .taken))
 
 digits-of-requires : tie.Need-digits-of-requires
 digits-of-requires c κs = search needs
 
 returns-4 : tie.Need-returns-4
-returns-4 c = c .digits-of .ensures ∙ number-digits _ (omega arith) (omega arith) (sym (c .before .before .leads-well .ensures) ∙ not-false _ (c .before .if3 .left))
+returns-4 c = c .digits-of .ensures
+    ∙ number-digits _ (omega arith) (omega arith)
+    (sym (c .before .before .leads-well .ensures) ∙ not-false _ (c .before .if3 .left))
 
 pub number-of-spec : {M : Type 1} → statement M
 number-of-spec =

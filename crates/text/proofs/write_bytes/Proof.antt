@@ -41,7 +41,8 @@ loop-again c =
     let i = c .before .before .loop .i in (
       search needs,
       simp length-set (search needs),
-      rw (c .before .before .loop .inv .2, add-one i) (paste-suc (a .out .now) (a .at) (a .s .now) i 0 (omega arith) (omega arith)),
+      rw (c .before .before .loop .inv .2, add-one i)
+          (paste-suc (a .out .now) (a .at) (a .s .now) i 0 (omega arith) (omega arith)),
     )
 
 add-result : tie.Need-add-result Inv-loop μ-loop
@@ -56,7 +57,8 @@ returns c =
     let e : c .before .loop .i ≡ length (a .s .now) = omega arith in
     record {
       place = omega arith;
-      text = c .before .loop .inv .2 ∙ ap (paste (a .out .now) (a .at) (a .s .now)) e ∙ put-paste (a .out .now) (a .at) (a .s .now);
+      text = c .before .loop .inv .2 ∙ ap (paste (a .out .now) (a .at) (a .s .now)) e
+          ∙ put-paste (a .out .now) (a .at) (a .s .now);
     }
 
 pub write-bytes-spec : {M : Type 1} → statement M

@@ -40,7 +40,8 @@ loop-less : tie.Need-loop-less Inv-loop μ-loop
 loop-less c = search needs
 
 loop-again : tie.Need-loop-again Inv-loop μ-loop
-loop-again c = writing-next _ _ _ _ _ _ _ (c .before .before .loop .inv) (c .before .loop-test .taken) (c .digit .ensures)
+loop-again c = writing-next _ _ _ _ _ _ _ (c .before .before .loop .inv) (c .before .loop-test .taken)
+    (c .digit .ensures)
 
 digit-requires-2 : tie.Need-digit-requires-2 Inv-loop μ-loop
 digit-requires-2 c κs = search needs
