@@ -130,7 +130,11 @@ fn show(label: &[u8], bytes: &[u8]) {
     let n = unpacked(bytes, &mut out);
     io::write_all(1, label);
     io::write_all(1, b":\n");
-    if n <= 66446 {
+    write_first(&out, n);
+}
+
+fn write_first(out: &[u8], n: usize) {
+    if n <= out.len() {
         io::write_all(1, &out[..n]);
     }
 }
@@ -154,9 +158,12 @@ fn written(label: &[u8], letters: &[u8], gate: u32) {
     number(b" v=", r.v);
     number(b" length=", r.length);
     io::write_all(1, b"\n");
-    let n = r.length as usize;
-    if n <= 1024 {
-        first_line(&text[..n]);
+    read_back(&text, r.length as usize);
+}
+
+fn read_back(bytes: &[u8], n: usize) {
+    if n <= bytes.len() {
+        first_line(&bytes[..n]);
     }
 }
 
@@ -168,8 +175,12 @@ fn number(key: &[u8], n: u32) {
 fn first_line(bytes: &[u8]) {
     let mut out = [0u8; 66446];
     unpacked(bytes, &mut out);
-    let n = text::up_to(&out, 10);
-    if n < 66446 {
+    write_line(&out);
+}
+
+fn write_line(out: &[u8]) {
+    let n = text::up_to(out, 10);
+    if n < out.len() {
         io::write_all(1, &out[..n + 1]);
     }
 }

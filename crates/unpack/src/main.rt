@@ -10,5 +10,11 @@ fn main() {
     let mut work = [0u32; 9600];
     let mut out = [0u8; 66446];
     let size = print::unpack(&bytes[..n], &mut vs, &mut os, &mut work, &mut out);
-    io::write_all(1, &out[..size]);
+    write_first(&out, size);
+}
+
+fn write_first(out: &[u8], size: usize) {
+    if size <= out.len() {
+        io::write_all(1, &out[..size]);
+    }
 }
