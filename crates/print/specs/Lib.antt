@@ -1,0 +1,3 @@
+-- The printed lines, and what the program unpack prints.
+pub mod Printed
+pub mod Unpack
