@@ -1,2 +1,3 @@
 pub mod Returns
 pub mod ReadsBack
+pub mod Compares

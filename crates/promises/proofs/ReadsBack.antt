@@ -41,10 +41,10 @@ pub written-refused :
 written-refused h = record { returns = λ e p q. absurd (h e) }
 
 -- what number 1 leaves of the lengths
-shape-count : (vs os : List ℕ) → shapeOk vs os ≡ true
+pub lengths-of : (vs os : List ℕ) → shapeOk vs os ≡ true
     → (length vs ≡ length os) × (length vs ≡ 3 * (length vs / 3)) × (countOk (length vs / 3) ≡ true)
 unfolding shapeOk
-shape-count vs os h =
+lengths-of vs os h =
     let count = countOk (length vs / 3) in
     let rest = and-right (eqb (length vs) (length os)) (eqb (length vs % 3) 0 && count) h in
     let same = eqb-true (length vs) (length os) (and-left (eqb (length vs) (length os)) (eqb (length vs % 3) 0 && count) h) in
@@ -89,7 +89,7 @@ module _ {vs os letters walk work letters′ walk′ work′ : List ℕ} {v g : 
           let s = lettersOf (meshWalk vs os g) in
           let made : Reads s vs₀ os₀ work′ b vs′ os′ work″ = rw (written-string h) at (read h) in
           let len : length s ≡ length vs / 3 = letters-length m in
-          let shape = shape-count vs os (m .shape) in
+          let shape = lengths-of vs os (m .shape) in
           let thirds : length vs ≡ 3 * (length vs / 3) = shape .1 in
           let same : length vs ≡ length os = shape .0 in
           let euler = m .sphere .euler in

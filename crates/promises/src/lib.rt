@@ -3,7 +3,8 @@
 ghost use mathlib.Core.Path.{_≡_};
 ghost use mathlib.Core.Bool.{true};
 ghost use Rattle.promises.specs.Demands.{Returned, ReadBack, Compared};
-use conn::{check_mesh, judge_string, read_string, write_string};
+use check::same;
+use conn::{read_string, write_string};
 use theory::Answer;
 
 pub struct Both {
@@ -52,4 +53,55 @@ pub fn write_read(
     let t = vs.len() / 3;
     let b = read_string(&letters[..t], vs2, os2, work);
     Both { first: a, second: b }
+}
+
+pub struct Verdict {
+    pub first: Answer,
+    pub second: Answer,
+    pub same: bool,
+}
+
+// Demand 3: the strings of two meshes are equal exactly when a renumbering carries one onto the other, gate to gate; it
+// is the only one, and the two walk tables show it.
+pub fn same_mesh(
+    vs: &[u32],
+    os: &[u32],
+    v: u32,
+    gate: u32,
+    vs2: &[u32],
+    os2: &[u32],
+    v2: u32,
+    gate2: u32,
+    letters: &mut [u8],
+    walk: &mut [u32],
+    letters2: &mut [u8],
+    walk2: &mut [u32],
+    work: &mut [u32],
+) -> Verdict
+    ensures { λ r. ⌜ Compared (now (vs .entry)) (now (os .entry)) v gate (now (vs2 .entry)) (now (os2 .entry)) v2 gate2 (r .first) (r .second) (r .same) (now (walk .exit)) (now (walk2 .exit)) ⌝ }
+{
+    let a = write_string(vs, os, v, gate, letters, walk, work);
+    let b = write_string(vs2, os2, v2, gate2, letters2, walk2, work);
+    if a.number != 0 {
+        return Verdict {
+            first: a,
+            second: b,
+            same: false,
+        };
+    }
+    if b.number != 0 {
+        return Verdict {
+            first: a,
+            second: b,
+            same: false,
+        };
+    }
+    let t = vs.len() / 3;
+    let t2 = vs2.len() / 3;
+    let equal = same(&letters[..t], &letters2[..t2]);
+    Verdict {
+        first: a,
+        second: b,
+        same: equal,
+    }
 }
