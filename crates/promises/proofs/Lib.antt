@@ -1,3 +1,4 @@
 pub mod Returns
 pub mod ReadsBack
 pub mod Compares
+pub mod Demands

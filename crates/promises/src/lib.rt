@@ -55,7 +55,7 @@ pub fn write_read(
     Both { first: a, second: b }
 }
 
-pub struct Verdict {
+pub struct Alike {
     pub first: Answer,
     pub second: Answer,
     pub same: bool,
@@ -77,20 +77,20 @@ pub fn same_mesh(
     letters2: &mut [u8],
     walk2: &mut [u32],
     work: &mut [u32],
-) -> Verdict
+) -> Alike
     ensures { λ r. ⌜ Compared (now (vs .entry)) (now (os .entry)) v gate (now (vs2 .entry)) (now (os2 .entry)) v2 gate2 (r .first) (r .second) (r .same) (now (walk .exit)) (now (walk2 .exit)) ⌝ }
 {
     let a = write_string(vs, os, v, gate, letters, walk, work);
     let b = write_string(vs2, os2, v2, gate2, letters2, walk2, work);
     if a.number != 0 {
-        return Verdict {
+        return Alike {
             first: a,
             second: b,
             same: false,
         };
     }
     if b.number != 0 {
-        return Verdict {
+        return Alike {
             first: a,
             second: b,
             same: false,
@@ -99,7 +99,7 @@ pub fn same_mesh(
     let t = vs.len() / 3;
     let t2 = vs2.len() / 3;
     let equal = same(&letters[..t], &letters2[..t2]);
-    Verdict {
+    Alike {
         first: a,
         second: b,
         same: equal,
