@@ -195,7 +195,7 @@ pub fn shuffled(rng: &mut Rng, m: &Mesh) -> Mesh {
 
 /// One change of a mesh, of some kind.
 pub fn damage_mesh(rng: &mut Rng, m: &mut Mesh) {
-    let n = m.vs.len();
+    let n = m.vs.len().min(m.os.len());
     if n == 0 {
         return;
     }
@@ -223,7 +223,7 @@ pub fn damage_mesh(rng: &mut Rng, m: &mut Mesh) {
                 m.v = z;
             }
         }
-        7 => m.v = rng.pick(&[m.v + 1, m.v + 1, m.v.saturating_sub(1), 0, 1, 2, 1 << 31, (1 << 31) + 2, u32::MAX]),
+        7 => m.v = rng.pick(&[m.v.wrapping_add(1), m.v.wrapping_add(1), m.v.saturating_sub(1), 0, 1, 2, 1 << 31, (1 << 31) + 2, u32::MAX]),
         8 => m.gate = rng.pick(&[n as u32, n as u32 + 1, u32::MAX]),
         9 => {
             m.vs.fill(0);
@@ -235,8 +235,8 @@ pub fn damage_mesh(rng: &mut Rng, m: &mut Mesh) {
             m.vs.iter_mut().filter(|u| **u == a).for_each(|u| *u = far);
             m.v = m.v.max(far.saturating_add(1));
         }
-        11 => m.vs.truncate(n - 1 - rng.below(3)),
-        12 => m.os.truncate(n - 1 - rng.below(3)),
+        11 => m.vs.truncate((n - 1).saturating_sub(rng.below(3))),
+        12 => m.os.truncate((n - 1).saturating_sub(rng.below(3))),
         13 => {
             let less = 3 * (1 + rng.below(2));
             m.vs.truncate(n.saturating_sub(less));

@@ -126,8 +126,8 @@ impl Record {
     /// # Ok::<(), last::Refusal>(())
     /// ```
     pub fn write(letters: &[u8], gate: u32) -> Result<Vec<u8>, Refusal> {
-        // seventeen bytes of keys and line ends around the form, six digits at most for each of tri and gate
-        let mut text = vec![0; letters.len() + 64];
+        // around the letters stand at most 34 bytes: tri has at most five digits and gate six
+        let mut text = vec![0; letters.len() + 34];
         let written = write_record(letters, gate, &mut text, &mut vec![0; work_len(room(letters.len()))])?;
         text.truncate(written.length);
         Ok(text)
