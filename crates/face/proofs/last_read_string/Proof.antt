@@ -1,6 +1,6 @@
 -- `last_read_string`: the promise of conn's `read_string` on the answer that the reply carries.
 use borrow.Author.Needs.{needs}
-use Rattle.face.proofs.Carried.{reads}
+use Rattle.face.proofs.Carried.{reads-carried}
 use Rattle.face.proofs.last_read_string.Statement.{statement}
 use Rattle.face.proofs.last_read_string.Tie as tie
 
@@ -20,7 +20,7 @@ same-length-3 : tie.Need-same-length-3
 same-length-3 c = search needs
 
 returns : tie.Need-returns
-returns c = reads (c .bare .ensures) (c .before .before .before .before .before .before .before .read-string .ensures)
+returns c = reads-carried (c .bare .ensures) (c .before .before .before .before .before .before .before .read-string .ensures)
 
 pub last-read-string-spec : {M : Type 1} → statement M
 last-read-string-spec =

@@ -1,6 +1,6 @@
 -- `last_write_string`: the promise of conn's `write_string` on the answer that the reply carries.
 use borrow.Author.Needs.{needs}
-use Rattle.face.proofs.Carried.{writes}
+use Rattle.face.proofs.Carried.{writes-carried}
 use Rattle.face.proofs.last_write_string.Statement.{statement}
 use Rattle.face.proofs.last_write_string.Tie as tie
 
@@ -20,7 +20,7 @@ same-length-3 : tie.Need-same-length-3
 same-length-3 c = search needs
 
 returns : tie.Need-returns
-returns c = writes (c .bare .ensures) (c .before .before .before .before .before .before .before .write-string .ensures)
+returns c = writes-carried (c .bare .ensures) (c .before .before .before .before .before .before .before .write-string .ensures)
 
 pub last-write-string-spec : {M : Type 1} → statement M
 last-write-string-spec =
