@@ -1,0 +1,138 @@
+// What the programs that run the calls share.
+//
+//     spell          the n-th string over the five letters
+//     rise           some Cs, then Rs, then E
+//     nines          a table before a call: 999,999,999 is neither a vertex nor a corner
+//     entries        how many entries of a table are x
+//     same equal     1 where two numbers, two strings are equal, else 0
+//     plus           a sum of counts
+//     show space     prints an answer; what is in a work space
+ghost use Prim.Native.Nat.{_≤_};
+use theory::Answer;
+
+fn letter(d: u32) -> u8 {
+    if d == 0 {
+        return b'C';
+    }
+    if d == 1 {
+        return b'L';
+    }
+    if d == 2 {
+        return b'E';
+    }
+    if d == 3 {
+        return b'R';
+    }
+    b'S'
+}
+
+pub fn spell(n: u32, s: &mut [u8]) {
+    let mut x = n;
+    let mut k = 0;
+    while k < s.len() {
+        s[k] = letter(x % 5);
+        x = x / 5;
+        k += 1;
+    }
+}
+
+// The first n letters, or all where there are fewer.
+fn fill(s: &mut [u8], n: usize, b: u8) {
+    let mut k = 0;
+    while k < s.len() {
+        if n <= k {
+            return;
+        }
+        s[k] = b;
+        k += 1;
+    }
+}
+
+fn end(s: &mut [u8], b: u8) {
+    let n = s.len();
+    if n == 0 {
+        return;
+    }
+    s[n - 1] = b;
+}
+
+// n Cs, then Rs, then E.
+pub fn rise(s: &mut [u8], n: usize) {
+    fill(s, s.len(), b'R');
+    fill(s, n, b'C');
+    end(s, b'E');
+}
+
+pub fn nines(tab: &mut [u32]) {
+    let mut k = 0;
+    while k < tab.len() {
+        tab[k] = 999999999;
+        k += 1;
+    }
+}
+
+pub fn same(a: u32, b: u32) -> u64
+    ensures { λ r. ⌜ r ≤ 1 ⌝ }
+{
+    if a == b {
+        return 1;
+    }
+    0
+}
+
+pub fn entries(tab: &[u32], x: u32) -> u64 {
+    let mut n = 0;
+    let mut i = 0;
+    while i < tab.len() {
+        n += same(tab[i], x);
+        i += 1;
+    }
+    n
+}
+
+pub fn equal(a: &[u8], b: &[u8]) -> u64 {
+    if a.len() != b.len() {
+        return 0;
+    }
+    let mut i = 0;
+    while i < a.len() {
+        if b.len() <= i {
+            return 0;
+        }
+        if a[i] != b[i] {
+            return 0;
+        }
+        i += 1;
+    }
+    1
+}
+
+// The counts of the programs are far below the bound.
+pub fn plus(a: u64, b: u64) -> u64 {
+    if 1000000000 < a {
+        return a;
+    }
+    if 1000000000 < b {
+        return a;
+    }
+    a + b
+}
+
+pub fn show(a: Answer) {
+    io::write_all(1, b" number=");
+    io::print_decimal(1, a.number as u64);
+    io::write_all(1, b" place=");
+    io::print_decimal(1, a.place as u64);
+    io::write_all(1, b" t=");
+    io::print_decimal(1, a.t as u64);
+    io::write_all(1, b" v=");
+    io::print_decimal(1, a.v as u64);
+}
+
+pub fn space(work: &[u32]) {
+    io::write_all(1, b" work kept=");
+    io::print_decimal(1, entries(work, 999999999));
+    io::write_all(1, b" zero=");
+    io::print_decimal(1, entries(work, 0));
+    io::write_all(1, b"\n");
+}
