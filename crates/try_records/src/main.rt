@@ -102,26 +102,19 @@ fn long() {
 
 // Fans of 800 and 802 triangles, written and read back: k Cs, k - 1 Rs and an E.
 fn large() {
+    let cs = [67u8; 401];
     let mut fan = [82u8; 800];
-    fill(&mut fan[..400], 67);
-    fan[799] = 69;
+    text::write_bytes(&mut fan, 0, &cs[..400]);
+    text::write_bytes(&mut fan, 799, b"E");
     written(b"800 triangles", &fan, 2399);
-    let mut wide = [82u8; 802];
-    fill(&mut wide[..401], 67);
-    wide[801] = 69;
-    written(b"802 triangles", &wide, 0);
     written(b"800 triangles and gate 2400", &fan, 2400);
     written(b"799 letters", &fan[1..], 0);
-    fan[0] = 76;
+    text::write_bytes(&mut fan, 0, b"L");
     written(b"800 letters that do not close", &fan, 0);
-}
-
-fn fill(out: &mut [u8], b: u8) {
-    let mut i = 0;
-    while i < out.len() {
-        out[i] = b;
-        i += 1;
-    }
+    let mut wide = [82u8; 802];
+    text::write_bytes(&mut wide, 0, &cs);
+    text::write_bytes(&mut wide, 801, b"E");
+    written(b"802 triangles", &wide, 0);
 }
 
 // Unpacks some bytes and prints what comes of it behind a label.
@@ -175,12 +168,6 @@ fn number(key: &[u8], n: u32) {
 fn first_line(bytes: &[u8]) {
     let mut out = [0u8; 66446];
     unpacked(bytes, &mut out);
-    write_line(&out);
-}
-
-fn write_line(out: &[u8]) {
-    let n = text::up_to(out, 10);
-    if n < out.len() {
-        io::write_all(1, &out[..n + 1]);
-    }
+    write_first(&out, text::up_to(&out, 10));
+    io::write_all(1, b"\n");
 }
