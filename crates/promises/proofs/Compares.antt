@@ -1,6 +1,7 @@
 -- Demand 3, from the promise of write_string alone.
 --
 --   not-compared    nothing is promised where a mesh is refused
+--   second-answer   the answer of the second call
 --   compared        two meshes written, and their strings compared
 use mathlib.Core.Bool.{Bool, true}
 use mathlib.Core.List.{List}
@@ -11,7 +12,7 @@ use lib.ListN.{length, take}
 use Rattle.promises.proofs.ReadsBack.{lengths-of, write-was-done, written-string, written-table}
 use Rattle.promises.specs.Demands.{Compared}
 use Rattle.theory.proofs.MeshStrings.{corners-by-walk, meshCorners, meshVertices, renumber-corners, renumber-strings, renumber-vertices, strings-renumber, strings-sizes}
-use Rattle.theory.specs.Calls.{Writes}
+use Rattle.theory.specs.Calls.{Writes, writeAnswer}
 use Rattle.theory.specs.Corner.{opposite, vertex}
 use Rattle.theory.specs.Renumber.{Renumbering, byWalk}
 use Rattle.theory.specs.Walk.{cornersOf, lettersOf, meshWalk, walk}
@@ -76,3 +77,11 @@ module _ {vs os letters walk work letters′ walk′ work′ : List ℕ} {v g : 
           let thirds = lengths-of vs os (m .shape) .1 in
           ( (λ c i. renumber-corners m m₂ n r c (omega arith) ∙ sym (renumber-corners m m₂ n t c (omega arith)))
           , λ u i. renumber-vertices m m₂ n r u i ∙ sym (renumber-vertices m m₂ n t u i) )
+
+-- the second of two calls, on a work space of the same length
+pub second-answer :
+    {vs os letters walk work letters′ walk′ work′ : List ℕ} {v g : ℕ} {b : Answer} (n : ℕ)
+    → Writes vs os v g letters walk work b letters′ walk′ work′ → length work ≡ n
+    → b ≡ writeAnswer vs os v g (length letters) (length walk) n
+second-answer {vs} {os} {letters} {walk} {v = v} {g = g} n w e =
+    w .answer ∙ ap (writeAnswer vs os v g (length letters) (length walk)) e

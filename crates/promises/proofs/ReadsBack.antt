@@ -35,11 +35,6 @@ use denote.Ref.{name}
 use denote.Struct.Rest.{rest}
 use types.Run.{returns}
 
-pub written-refused :
-    {vs os vs₀ os₀ walk vs′ os′ : List ℕ} {v g : ℕ} {a b : Answer}
-    → a .number ≢ 0 → ReadBack vs os v g vs₀ os₀ a b walk vs′ os′
-written-refused h = record { returns = λ e p q. absurd (h e) }
-
 -- what number 1 leaves of the lengths
 pub lengths-of : (vs os : List ℕ) → shapeOk vs os ≡ true
     → (length vs ≡ length os) × (length vs ≡ 3 * (length vs / 3)) × (countOk (length vs / 3) ≡ true)
@@ -73,11 +68,15 @@ module _ {vs os letters walk work letters′ walk′ work′ : List ℕ} {v g : 
     unfolding cleared mem
     write-space = ap length (w .space ∙ cleared-later a work (rw h refl)) ∙ length-replicate {A = ℕ} (length work) 0
 
+  pub written-refused : {vs₀ os₀ vs′ os′ : List ℕ} {b : Answer} → a .number ≢ 0
+      → ReadBack vs os v g letters walk vs₀ os₀ work a b walk′ vs′ os′
+  written-refused h = record { written = w .answer; returns = λ e p q. absurd (h e) }
+
   pub written-returned :
       {vs₀ os₀ vs′ os′ work″ : List ℕ} {b : Answer}
       → (a .number ≡ 0 → Reads (take (length vs / 3) letters′) vs₀ os₀ work′ b vs′ os′ work″)
-      → ReadBack vs os v g vs₀ os₀ a b walk′ vs′ os′
-  written-returned {vs₀} {os₀} {vs′} {os′} {work″} {b} read = record { returns = go }
+      → ReadBack vs os v g letters walk vs₀ os₀ work a b walk′ vs′ os′
+  written-returned {vs₀} {os₀} {vs′} {os′} {work″} {b} read = record { written = w .answer; returns = go }
     where
       go : a .number ≡ 0 → length vs ≤ length vs₀ → length os ≤ length os₀
           → (b ≡ a) × ((name : ℕ → ℕ)

@@ -16,6 +16,7 @@ use Rattle.theory.proofs.CallLaws.{cleared-later, filled-done}
 use Rattle.theory.proofs.CallsDone.{ReadDone, read-done, write-goes}
 use Rattle.theory.proofs.Closing.{closes-word}
 use Rattle.theory.proofs.ReadMesh.{closes-accepted, walk-returns}
+use Rattle.theory.proofs.Reading.{read}
 use Rattle.theory.proofs.WordLaws.{length-spell}
 use Rattle.theory.proofs.WordSteps.{length-tips, tipCorners}
 use Rattle.theory.proofs.WordTables.{length-o, length-v}
@@ -29,10 +30,6 @@ use Rattle.theory.specs.Word.{size, spell, wordOf}
 use Rattle.theory.specs.declared.Answer.{Answer}
 use denote.Struct.Steps.{spelt}
 use types.Run.{returns}
-
-pub read-refused :
-    {s letters walk letters′ walk′ : List ℕ} {a b : Answer} → a .number ≢ 0 → Returned s letters walk a b letters′ walk′
-read-refused h = record { returns = λ e p q. absurd (h e) }
 
 -- the part of a filled table that was made
 pub first-part : (a : Answer) (made old : List ℕ) {tab : List ℕ} (n : ℕ) → a .number ≡ 0 → tab ≡ filled a made old → length made ≡ n
@@ -68,12 +65,16 @@ module _ {s vs os work vs′ os′ work′ : List ℕ} {a : Answer} (r : Reads s
     unfolding cleared mem
     read-space = ap length (r .space ∙ cleared-later a work (rw h refl)) ∙ length-replicate {A = ℕ} (length work) 0
 
+  pub read-refused : {letters walk letters′ walk′ : List ℕ} {b : Answer} → a .number ≢ 0
+      → Returned s vs os letters walk work a b letters′ walk′
+  read-refused h = record { read = r .answer; returns = λ e p q. absurd (h e) }
+
   pub read-returned :
       {letters walk letters′ walk′ work″ : List ℕ} {b : Answer}
       → (a .number ≡ 0
       → Writes (take (3 * length s) vs′) (take (3 * length s) os′) (a .v) 0 letters walk work′ b letters′ walk′ work″)
-      → Returned s letters walk a b letters′ walk′
-  read-returned {letters} {walk} {letters′} {walk′} {work″} {b} wrote = record { returns = go }
+      → Returned s vs os letters walk work a b letters′ walk′
+  read-returned {letters} {walk} {letters′} {walk′} {work″} {b} wrote = record { read = r .answer; returns = go }
     where
       go : a .number ≡ 0 → length s ≤ length letters → length s ≤ length walk
           → (b ≡ a) × (letters′ ≡ s ++ drop (length s) letters) × (walk′ ≡ tipCorners (length s) ++ drop (length s) walk)

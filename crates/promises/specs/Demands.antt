@@ -9,6 +9,7 @@ use mathlib.Core.Path.{_≡_}
 use Prim.Native.Nat.{_/_, _<_, _≤_, ℕ}
 use lib.ListN.{drop, length, take}
 use Rattle.theory.proofs.WordSteps.{tipCorners}
+use Rattle.theory.specs.Calls.{readAnswer, writeAnswer}
 use Rattle.theory.specs.Corner.{opposite, vertex}
 use Rattle.theory.specs.Renumber.{Renumbering, byWalk}
 use Rattle.theory.specs.Walk.{walk}
@@ -16,16 +17,18 @@ use Rattle.theory.specs.declared.Answer.{Answer}
 use denote.Ref.{name}
 
 -- s was read with answer a and its tables were written with answer b into letters and walk
-pub record Returned (s letters walk : List ℕ) (a b : Answer) (letters′ walk′ : List ℕ) : Type 0 where
+pub record Returned (s vs os letters walk work : List ℕ) (a b : Answer) (letters′ walk′ : List ℕ) : Type 0 where
+  pub read : a ≡ readAnswer s (length vs) (length os) (length work)
   pub returns : a .number ≡ 0 → length s ≤ length letters → length s ≤ length walk
       → (b ≡ a) × (letters′ ≡ s ++ drop (length s) letters) × (walk′ ≡ tipCorners (length s) ++ drop (length s) walk)
 
 -- the mesh was written with answer a, and its string was read with answer b into vs′ and os′, lent as vs₀ and os₀
-pub record ReadBack (vs os : List ℕ) (v g : ℕ) (vs₀ os₀ : List ℕ) (a b : Answer) (walk vs′ os′ : List ℕ) : Type 0 where
+pub record ReadBack (vs os : List ℕ) (v g : ℕ) (letters walk vs₀ os₀ work : List ℕ) (a b : Answer) (walk′ vs′ os′ : List ℕ) : Type 0 where
+  pub written : a ≡ writeAnswer vs os v g (length letters) (length walk) (length work)
   pub returns : a .number ≡ 0 → length vs ≤ length vs₀ → length os ≤ length os₀
       → (b ≡ a) × ((name : ℕ → ℕ)
       × Renumbering (vertex (take (length vs) vs′)) (opposite (take (length os) os′)) (vertex vs) (opposite os)
-        (length vs / 3) v 0 g (byWalk (take (length vs / 3) walk)) name)
+        (length vs / 3) v 0 g (byWalk (take (length vs / 3) walk′)) name)
 
 -- two meshes were written with answers a and b, and their strings compared
 pub record Compared (vs os : List ℕ) (v g : ℕ) (vs′ os′ : List ℕ) (v′ g′ : ℕ) (a b : Answer) (same : Bool) (walk walk′ : List ℕ) : Type 0 where

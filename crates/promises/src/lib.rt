@@ -1,7 +1,8 @@
 // What was asked, on the code: each function calls public functions of the parts and nothing else of them, and its
 // contract is the demand, proved from their promises alone. What was asked of the definitions is in proofs/Demands.
 ghost use mathlib.Core.Path.{_≡_};
-ghost use mathlib.Core.Bool.{true};
+ghost use lib.ListN.{length};
+ghost use Rattle.theory.specs.Calls.{writeAnswer};
 ghost use Rattle.promises.specs.Demands.{Returned, ReadBack, Compared};
 use check::same;
 use conn::{read_string, write_string};
@@ -21,7 +22,7 @@ pub fn read_write(
     walk: &mut [u32],
     work: &mut [u32],
 ) -> Both
-    ensures { λ r. ⌜ Returned (now (s .entry)) (now (letters .entry)) (now (walk .entry)) (r .first) (r .second) (now (letters .exit)) (now (walk .exit)) ⌝ }
+    ensures { λ r. ⌜ Returned (now (s .entry)) (now (vs .entry)) (now (os .entry)) (now (letters .entry)) (now (walk .entry)) (now (work .entry)) (r .first) (r .second) (now (letters .exit)) (now (walk .exit)) ⌝ }
 {
     let a = read_string(s, vs, os, work);
     if a.number != 0 {
@@ -44,7 +45,7 @@ pub fn write_read(
     os2: &mut [u32],
     work: &mut [u32],
 ) -> Both
-    ensures { λ r. ⌜ ReadBack (now (vs .entry)) (now (os .entry)) v gate (now (vs2 .entry)) (now (os2 .entry)) (r .first) (r .second) (now (walk .exit)) (now (vs2 .exit)) (now (os2 .exit)) ⌝ }
+    ensures { λ r. ⌜ ReadBack (now (vs .entry)) (now (os .entry)) v gate (now (letters .entry)) (now (walk .entry)) (now (vs2 .entry)) (now (os2 .entry)) (now (work .entry)) (r .first) (r .second) (now (walk .exit)) (now (vs2 .exit)) (now (os2 .exit)) ⌝ }
 {
     let a = write_string(vs, os, v, gate, letters, walk, work);
     if a.number != 0 {
@@ -78,7 +79,7 @@ pub fn same_mesh(
     walk2: &mut [u32],
     work: &mut [u32],
 ) -> Alike
-    ensures { λ r. ⌜ Compared (now (vs .entry)) (now (os .entry)) v gate (now (vs2 .entry)) (now (os2 .entry)) v2 gate2 (r .first) (r .second) (r .same) (now (walk .exit)) (now (walk2 .exit)) ⌝ }
+    ensures { λ r. ⌜ (r .first ≡ writeAnswer (now (vs .entry)) (now (os .entry)) v gate (length (now (letters .entry))) (length (now (walk .entry))) (length (now (work .entry)))) × (r .second ≡ writeAnswer (now (vs2 .entry)) (now (os2 .entry)) v2 gate2 (length (now (letters2 .entry))) (length (now (walk2 .entry))) (length (now (work .entry)))) × Compared (now (vs .entry)) (now (os .entry)) v gate (now (vs2 .entry)) (now (os2 .entry)) v2 gate2 (r .first) (r .second) (r .same) (now (walk .exit)) (now (walk2 .exit)) ⌝ }
 {
     let a = write_string(vs, os, v, gate, letters, walk, work);
     let b = write_string(vs2, os2, v2, gate2, letters2, walk2, work);

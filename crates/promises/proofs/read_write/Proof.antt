@@ -21,7 +21,7 @@ same-length-3 : tie.Need-same-length-3
 same-length-3 c = search needs
 
 returns : tie.Need-returns
-returns c = read-refused (c .if1 .taken)
+returns c = read-refused (c .before .before .before .before .before .before .before .before .read-string .ensures) (c .if1 .taken)
 
 mul-n : tie.Need-mul-n
 mul-n c = omega (arith, count-few _ (read-was-done (c .before .before .before .before .before .before .before .before .read-string .ensures) (c .if1 .left) .count))

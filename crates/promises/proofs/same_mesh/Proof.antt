@@ -3,7 +3,7 @@ use mathlib.Core.Path.{sym}
 use native.Mathlib.Omega.{arith}
 use lib.Seq.{length-take-le}
 use borrow.Author.Needs.{needs}
-use Rattle.promises.proofs.Compares.{compared, not-compared}
+use Rattle.promises.proofs.Compares.{compared, not-compared, second-answer}
 use Rattle.promises.proofs.ReadsBack.{write-was-done}
 use Rattle.promises.proofs.same_mesh.Statement.{statement}
 use Rattle.promises.proofs.same_mesh.Tie as tie
@@ -30,7 +30,7 @@ same-length-5 : tie.Need-same-length-5
 same-length-5 c = search needs
 
 returns : tie.Need-returns
-returns c = not-compared (λ p q. c .if1 .taken p)
+returns c = (c .before .before .before .before .before .before .before .before .before .before .before .before .before .before .before .before .before .before .write-string .ensures .answer, second-answer _ (c .before .before .before .before .before .before .before .before .write-string2 .ensures) (c .before .before .before .before .before .before .before .before .before .before .before .before .before .before .before .before .before .before .write-string .kept .1 .1 .1 .1 .1 .1 .0), not-compared (λ p q. c .if1 .taken p))
 
 same-length-6 : tie.Need-same-length-6
 same-length-6 c = search needs
@@ -48,7 +48,7 @@ same-length-10 : tie.Need-same-length-10
 same-length-10 c = search needs
 
 returns-2 : tie.Need-returns-2
-returns-2 c = not-compared (λ p q. c .if2 .taken q)
+returns-2 c = (c .before .before .before .before .before .before .before .before .before .before .before .before .before .before .before .before .before .before .before .before .write-string .ensures .answer, second-answer _ (c .before .before .before .before .before .before .before .before .before .before .write-string2 .ensures) (c .before .before .before .before .before .before .before .before .before .before .before .before .before .before .before .before .before .before .before .before .write-string .kept .1 .1 .1 .1 .1 .1 .0), not-compared (λ p q. c .if2 .taken q))
 
 slice-reshare-prefix-same : tie.Need-slice-reshare-prefix-same
 slice-reshare-prefix-same c = omega (arith, write-was-done (c .before .before .before .before .before .before .before .before .before .before .before .before .before .before .before .before .before .before .before .before .write-string .ensures) (c .before .before .if1 .left) .string, c .before .before .before .before .before .before .before .before .before .before .before .before .before .before .before .before .before .before .before .before .write-string .kept .1 .1 .1 .1 .0)
@@ -81,7 +81,9 @@ same-length-15 : tie.Need-same-length-15
 same-length-15 c = search needs
 
 returns-3 : tie.Need-returns-3
-returns-3 c = compared (c .before .before .before .before .before .before .before .before .before .before .before .before .before .before .before .before .before .before .before .before .before .before .before .write-string .ensures) (c .before .before .before .before .before .before .before .before .before .before .before .before .before .write-string2 .ensures) (c .same .ensures)
+returns-3 c = ( c .before .before .before .before .before .before .before .before .before .before .before .before .before .before .before .before .before .before .before .before .before .before .before .write-string .ensures .answer
+    , second-answer _ (c .before .before .before .before .before .before .before .before .before .before .before .before .before .write-string2 .ensures) (c .before .before .before .before .before .before .before .before .before .before .before .before .before .before .before .before .before .before .before .before .before .before .before .write-string .kept .1 .1 .1 .1 .1 .1 .0)
+    , compared (c .before .before .before .before .before .before .before .before .before .before .before .before .before .before .before .before .before .before .before .before .before .before .before .write-string .ensures) (c .before .before .before .before .before .before .before .before .before .before .before .before .before .write-string2 .ensures) (c .same .ensures) )
 
 pub same-mesh-spec : {M : Type 1} → statement M
 same-mesh-spec =

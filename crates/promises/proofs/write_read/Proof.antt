@@ -20,7 +20,7 @@ same-length-3 : tie.Need-same-length-3
 same-length-3 c = search needs
 
 returns : tie.Need-returns
-returns c = written-refused (c .if1 .taken)
+returns c = written-refused (c .before .before .before .before .before .before .before .before .write-string .ensures) (c .if1 .taken)
 
 slice-reshare-prefix-read-string : tie.Need-slice-reshare-prefix-read-string
 slice-reshare-prefix-read-string c = omega (arith, write-was-done (c .before .before .before .before .before .before .before .before .write-string .ensures) (c .if1 .left) .string, c .before .before .before .before .before .before .before .before .write-string .kept .1 .1 .1 .1 .0)
