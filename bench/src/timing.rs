@@ -112,14 +112,15 @@ pub fn run() {
         KINDS.iter().map(|kind| SIZES.iter().map(|&t| times(&mesh(kind, t))).collect()).collect();
     for (call, name) in crate::compare::CALLS.iter().enumerate() {
         println!("\n{name}\n");
-        println!("| mesh | t | library, ns | plain, ns | ratio | growth |");
-        println!("|---|---:|---:|---:|---:|---:|");
+        println!("| mesh | t = 2,000 | t = 20,000 | t = 65,536 | growth |");
+        println!("|---|---:|---:|---:|---:|");
         for (kind, sizes) in KINDS.iter().zip(&all) {
-            for (t, calls) in SIZES.iter().zip(sizes) {
+            print!("| {kind} |");
+            for calls in sizes {
                 let (ours, theirs) = calls[call];
-                let growth = if *t == SIZES[2] { format!("{:.2}", ours / sizes[0][call].0) } else { String::new() };
-                println!("| {kind} | {t} | {ours:.1} | {theirs:.1} | {:.2} | {growth} |", ours / theirs);
+                print!(" {ours:.1} / {theirs:.1} = {:.2} |", ours / theirs);
             }
+            println!(" {:.2} |", sizes[2][call].0 / sizes[0][call].0);
         }
     }
 }
