@@ -10,7 +10,7 @@
  * came. Where a call is done, entries of an output behind those that it writes keep their contents.
  *
  * The work space needs LAST_WORK_LEN(t) numbers. What it holds before a call has no influence. After every call it is
- * all zero, its whole length, except that the refusals 1, 2 and 16 to 18, and 8 of the two record calls, do not touch it.
+ * all zero, its whole length, except that the refusals 1, 2 and 16 to 18, and 8 of the record calls, do not touch it.
  */
 #ifndef LAST_H
 #define LAST_H
@@ -25,7 +25,7 @@ extern "C" {
 /* The most triangles of a mesh. */
 #define LAST_MOST_TRIANGLES 65536
 
-/* Entries of each of V and O, letters of a string, entries of a walk table, numbers of the work space, for t triangles. */
+/* For t triangles: entries of each of V and O, letters of a string, entries of a walk table, numbers of work space. */
 #define LAST_TABLE_LEN(t) (3 * (size_t)(t))
 #define LAST_STRING_LEN(t) ((size_t)(t))
 #define LAST_WALK_LEN(t) ((size_t)(t))
@@ -76,8 +76,8 @@ struct last_answer {
 struct last_answer last_check_mesh(const uint32_t *vs, size_t vs_len, const uint32_t *os, size_t os_len, uint32_t v,
                                    uint32_t gate, uint32_t *work, size_t work_len);
 
-/* Writes the string and the walk table of a mesh from the gate corner: at k the letter of the k-th triangle of the walk,
- * and the caller's corner at which the walk met it. t entries of each. Done: t and v. Refusals: 1, 2, 8 to 15. */
+/* Writes the string and the walk table of a mesh from the gate corner: at k the letter of the k-th triangle of the
+ * walk, and the caller's corner at which the walk met it. t entries of each. Done: t and v. Refusals: 1, 2, 8 to 15. */
 struct last_answer last_write_string(const uint32_t *vs, size_t vs_len, const uint32_t *os, size_t os_len, uint32_t v,
                                      uint32_t gate, uint8_t *letters, size_t letters_len, uint32_t *walk,
                                      size_t walk_len, uint32_t *work, size_t work_len);
@@ -87,8 +87,8 @@ struct last_answer last_write_string(const uint32_t *vs, size_t vs_len, const ui
 struct last_answer last_read_string(const uint8_t *letters, size_t letters_len, uint32_t *vs, size_t vs_len,
                                     uint32_t *os, size_t os_len, uint32_t *work, size_t work_len);
 
-/* Reads a record, and its string into tables as last_read_string does. Done: t, v and the gate, a corner in the packer's
- * own numbering. Refusals, in this order: 16, 17, 1, 8, 18, 2, 3 to 7; places of 3 to 7 count from the first letter. */
+/* Reads a record, and its string into tables as last_read_string does. Done: t, v and the gate, a corner in the
+ * packer's own numbering. Refusals, in this order: 16, 17, 1, 8, 18, 2, 3 to 7; places of 3 to 7 count from the first letter. */
 struct last_answer last_read_record(const uint8_t *record, size_t record_len, uint32_t *vs, size_t vs_len,
                                     uint32_t *os, size_t os_len, uint32_t *work, size_t work_len);
 
