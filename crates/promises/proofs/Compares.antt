@@ -54,13 +54,16 @@ module _ {vs os letters walk work letters′ walk′ work′ : List ℕ} {v g : 
           let s = strings p q .0 e in
           let n = strings-sizes m m₂ s in
           let t : length vs / 3 ≡ length vs₂ / 3 = ap (λ (i : ℕ). i / 3) (n .0) in
-          let second : take (length vs / 3) walk₂′ ≡ cornersOf (meshWalk vs₂ os₂ g₂) = rw t (written-table x q) in
-          ( n .0
-          , n .1
-          , ( meshCorners m m₂
-            , meshVertices m m₂
-            , strings-renumber m m₂ s
-            , λ y l. rw (written-table w p, second) (corners-by-walk m m₂ y) ) )
+          let second : take (length vs / 3) walk₂′ ≡ cornersOf (meshWalk vs₂ os₂ g₂) = rw t (written-table x q) in (
+            n .0,
+            n .1,
+            (
+              meshCorners m m₂,
+              meshVertices m m₂,
+              strings-renumber m m₂ s,
+              λ y l. rw (written-table w p, second) (corners-by-walk m m₂ y),
+            ),
+          )
 
       found-by : a .number ≡ 0 → b .number ≡ 0 → length vs ≡ length vs₂ → (h n : ℕ → ℕ)
           → Renumbering (vertex vs) (opposite os) (vertex vs₂) (opposite os₂) (length vs / 3) v g g₂ h n → same ≡ true
@@ -74,9 +77,10 @@ module _ {vs os letters walk work letters′ walk′ work′ : List ℕ} {v g : 
       only-by p q n h j k l r t =
           let m = write-was-done w p .mesh in
           let m₂ = write-was-done x q .mesh in
-          let thirds = lengths-of vs os (m .shape) .1 in
-          ( (λ c i. renumber-corners m m₂ n r c (omega arith) ∙ sym (renumber-corners m m₂ n t c (omega arith)))
-          , λ u i. renumber-vertices m m₂ n r u i ∙ sym (renumber-vertices m m₂ n t u i) )
+          let thirds = lengths-of vs os (m .shape) .1 in (
+            (λ c i. renumber-corners m m₂ n r c (omega arith) ∙ sym (renumber-corners m m₂ n t c (omega arith))),
+            λ u i. renumber-vertices m m₂ n r u i ∙ sym (renumber-vertices m m₂ n t u i),
+          )
 
 -- the second of two calls, on a work space of the same length
 pub second-answer :

@@ -39,21 +39,23 @@ pub demand-1-settled : {s vs os work vs′ os′ work′ vs″ os″ work″ : L
     → Reads s vs os work a vs′ os′ work′ → Reads s vs os work b vs″ os″ work″
     → (a ≡ b) × (vs′ ≡ vs″) × (os′ ≡ os″) × (work′ ≡ work″)
 demand-1-settled {s} {vs} {os} {work} r q =
-    let e = r .answer ∙ sym (q .answer) in
-    ( e
-    , r .vertices ∙ ap (λ (x : Answer). filled x (tableV (wordOf s)) vs) e ∙ sym (q .vertices)
-    , r .neighbours ∙ ap (λ (x : Answer). filled x (tableO (wordOf s)) os) e ∙ sym (q .neighbours)
-    , r .space ∙ ap (λ (x : Answer). cleared sizes x work) e ∙ sym (q .space) )
+    let e = r .answer ∙ sym (q .answer) in (
+      e,
+      r .vertices ∙ ap (λ (x : Answer). filled x (tableV (wordOf s)) vs) e ∙ sym (q .vertices),
+      r .neighbours ∙ ap (λ (x : Answer). filled x (tableO (wordOf s)) os) e ∙ sym (q .neighbours),
+      r .space ∙ ap (λ (x : Answer). cleared sizes x work) e ∙ sym (q .space),
+    )
 
 pub demand-1-written-settled : {vs os letters walk work letters′ walk′ work′ letters″ walk″ work″ : List ℕ} {v g : ℕ} {a b : Answer}
     → Writes vs os v g letters walk work a letters′ walk′ work′ → Writes vs os v g letters walk work b letters″ walk″ work″
     → (a ≡ b) × (letters′ ≡ letters″) × (walk′ ≡ walk″) × (work′ ≡ work″)
 demand-1-written-settled {vs} {os} {letters} {walk} {work} {g = g} r q =
-    let e = r .answer ∙ sym (q .answer) in
-    ( e
-    , r .string ∙ ap (λ (x : Answer). filled x (lettersOf (meshWalk vs os g)) letters) e ∙ sym (q .string)
-    , r .table ∙ ap (λ (x : Answer). filled x (cornersOf (meshWalk vs os g)) walk) e ∙ sym (q .table)
-    , r .space ∙ ap (λ (x : Answer). cleared sizes x work) e ∙ sym (q .space) )
+    let e = r .answer ∙ sym (q .answer) in (
+      e,
+      r .string ∙ ap (λ (x : Answer). filled x (lettersOf (meshWalk vs os g)) letters) e ∙ sym (q .string),
+      r .table ∙ ap (λ (x : Answer). filled x (cornersOf (meshWalk vs os g)) walk) e ∙ sym (q .table),
+      r .space ∙ ap (λ (x : Answer). cleared sizes x work) e ∙ sym (q .space),
+    )
 
 pub demand-2-closes : (s : List ℕ) → (letterAnswer s .number ≡ 0 → Closes s) × (Closes s → letterAnswer s ≡ stringDone s)
 demand-2-closes s = (answer-closes s, closes-answer s)
@@ -63,7 +65,7 @@ demand-2-verdict s = (verdict s, verdict-only s)
 
 pub demand-2-mesh : (s : List ℕ) → Closes s → countOk (length s) ≡ true
     → meshAnswer (tableV (wordOf s)) (tableO (wordOf s)) (length s / 2 + 2) 0 true
-      ≡ done (length (tableV (wordOf s)) / 3) (length s / 2 + 2)
+    ≡ done (length (tableV (wordOf s)) / 3) (length s / 2 + 2)
 demand-2-mesh s c ok = accepts (tableV (wordOf s)) (tableO (wordOf s)) (length s / 2 + 2) 0 (closes-accepted s c ok)
 
 pub demand-2-string : (w : Word) → Sound w → width w ≡ 2

@@ -1,4 +1,5 @@
 pub mod Returns
 pub mod ReadsBack
 pub mod Compares
+pub mod RecordAgain
 pub mod Demands

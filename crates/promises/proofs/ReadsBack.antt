@@ -81,7 +81,7 @@ module _ {vs os letters walk work letters′ walk′ work′ : List ℕ} {v g : 
       go : a .number ≡ 0 → length vs ≤ length vs₀ → length os ≤ length os₀
           → (b ≡ a) × ((name : ℕ → ℕ)
           × Renumbering (vertex (take (length vs) vs′)) (opposite (take (length os) os′)) (vertex vs) (opposite os)
-            (length vs / 3) v 0 g (byWalk (take (length vs / 3) walk′)) name)
+          (length vs / 3) v 0 g (byWalk (take (length vs / 3) walk′)) name)
       go h p q =
           let d = write-was-done h in
           let m = d .mesh in
@@ -95,11 +95,11 @@ module _ {vs os letters walk work letters′ walk′ work′ : List ℕ} {v g : 
           let room = d .room in
           let space = write-space h in
           let counts : stringDone s ≡ done (length vs / 3) v =
-                let e : length s / 2 + 2 ≡ v = omega arith in rw (e, len) in
+          let e : length s / 2 + 2 ≡ v = omega arith in rw (e, len) in
           let ans : b ≡ stringDone s =
-                made .answer
-                ∙ read-goes s (length vs₀) (length os₀) (length work′) (rw len (shape .2)) (mesh-closes m)
-                  (omega arith) (omega arith) (omega arith) in
+          made .answer
+          ∙ read-goes s (length vs₀) (length os₀) (length work′) (rw len (shape .2)) (mesh-closes m)
+          (omega arith) (omega arith) (omega arith) in
           let zero = ap (λ (x : Answer). x .number) ans in
           let nv : 3 * length s ≡ length vs = omega arith in
           let no : 3 * length s ≡ length os = omega arith in

@@ -83,7 +83,7 @@ module _ {s vs os work vs′ os′ work′ : List ℕ} {a : Answer} (r : Reads s
           let w = wordOf s in
           let v = length s / 2 + 2 in
           let made : Writes (tableV w) (tableO w) v 0 letters walk work′ b letters′ walk′ work″ =
-                rw (read-vertices h, read-neighbours h, read-counts h) at (wrote h) in
+          rw (read-vertices h, read-neighbours h, read-counts h) at (wrote h) in
           let m : length (tableV w) / 3 ≡ length s = rw (length-v w, read-size h) (omega arith) in
           let room = d .room in
           let same = read-space h in
@@ -92,12 +92,13 @@ module _ {s vs os work vs′ os′ work′ : List ℕ} {a : Answer} (r : Reads s
           let back = walk-returns w (rw (← word) (c .sound)) (rw (← word) (c .two)) in
           let spelt : spell w ≡ s = rw (← word) (c .spelt) in
           let ans : b ≡ done (length s) v =
-                made .answer
-                ∙ write-goes (tableV w) (tableO w) v 0 (length letters) (length walk) (length work′)
-                  (closes-accepted s c (d .count)) (omega arith) (omega arith) (omega arith)
-                ∙ rw m in
-          let zero = ap (λ (x : Answer). x .number) ans in
-          ( ans ∙ sym (read-counts h)
-          , made .string ∙ filled-done b (lettersOf (meshWalk (tableV w) (tableO w) 0)) letters zero ∙ rw (back .0, spelt)
-          , made .table ∙ filled-done b (cornersOf (meshWalk (tableV w) (tableO w) 0)) walk zero
-            ∙ rw (back .1, read-size h, length-tips 0 (length s)) )
+          made .answer
+          ∙ write-goes (tableV w) (tableO w) v 0 (length letters) (length walk) (length work′)
+          (closes-accepted s c (d .count)) (omega arith) (omega arith) (omega arith)
+          ∙ rw m in
+          let zero = ap (λ (x : Answer). x .number) ans in (
+            ans ∙ sym (read-counts h),
+            made .string ∙ filled-done b (lettersOf (meshWalk (tableV w) (tableO w) 0)) letters zero ∙ rw (back .0, spelt),
+            made .table ∙ filled-done b (cornersOf (meshWalk (tableV w) (tableO w) 0)) walk zero
+                ∙ rw (back .1, read-size h, length-tips 0 (length s)),
+          )

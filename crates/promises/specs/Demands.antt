@@ -2,19 +2,23 @@
 --
 --   Returned      reading a string and writing it from corner 0 returns that string
 --   ReadBack      writing a mesh and reading it returns the mesh, renumbered by the walk table
+--   RecordReturned   a record read and written again comes back byte for byte
 --   Compared      strings are equal exactly when a renumbering exists; then the two walk tables show it
 use mathlib.Core.Bool.{Bool, true}
 use mathlib.Core.List.{List, _++_}
 use mathlib.Core.Path.{_≡_}
 use Prim.Native.Nat.{_/_, _<_, _≤_, ℕ}
 use lib.ListN.{drop, length, take}
+use Rattle.record.specs.Calls.{openAnswer, opened, packed}
+use Rattle.record.specs.Lines.{gateLine, letters}
+use Rattle.record.specs.declared.Opened.{Opened}
+use Rattle.record.specs.declared.Packed.{Packed}
 use Rattle.theory.proofs.WordSteps.{tipCorners}
 use Rattle.theory.specs.Calls.{readAnswer, writeAnswer}
 use Rattle.theory.specs.Corner.{opposite, vertex}
+use Rattle.theory.specs.Judge.{stringDone}
 use Rattle.theory.specs.Renumber.{Renumbering, byWalk}
-use Rattle.theory.specs.Walk.{walk}
 use Rattle.theory.specs.declared.Answer.{Answer}
-use denote.Ref.{name}
 
 -- s was read with answer a and its tables were written with answer b into letters and walk
 pub record Returned (s vs os letters walk work : List ℕ) (a b : Answer) (letters′ walk′ : List ℕ) : Type 0 where
@@ -28,7 +32,7 @@ pub record ReadBack (vs os : List ℕ) (v g : ℕ) (letters walk vs₀ os₀ wor
   pub returns : a .number ≡ 0 → length vs ≤ length vs₀ → length os ≤ length os₀
       → (b ≡ a) × ((name : ℕ → ℕ)
       × Renumbering (vertex (take (length vs) vs′)) (opposite (take (length os) os′)) (vertex vs) (opposite os)
-        (length vs / 3) v 0 g (byWalk (take (length vs / 3) walk′)) name)
+      (length vs / 3) v 0 g (byWalk (take (length vs / 3) walk′)) name)
 
 -- two meshes were written with answers a and b, and their strings compared
 pub record Compared (vs os : List ℕ) (v g : ℕ) (vs′ os′ : List ℕ) (v′ g′ : ℕ) (a b : Answer) (same : Bool) (walk walk′ : List ℕ) : Type 0 where
@@ -45,3 +49,9 @@ pub record Compared (vs os : List ℕ) (v g : ℕ) (vs′ os′ : List ℕ) (v�
       → Renumbering (vertex vs) (opposite os) (vertex vs′) (opposite os′) (length vs / 3) v g g′ h n
       → Renumbering (vertex vs) (opposite os) (vertex vs′) (opposite os′) (length vs / 3) v g g′ k m
       → ((c : ℕ) → c < length vs → h c ≡ k c) × ((u : ℕ) → u < v → n u ≡ m u)
+
+-- text was read as a record with answer r, and its string and gate were written with answer p into out
+pub record RecordReturned (text vs os work out : List ℕ) (r : Opened) (p : Packed) (out′ : List ℕ) : Type 0 where
+  pub read : r ≡ opened (openAnswer text (length vs) (length os) (length work)) (gateLine text .value)
+  pub returns : r .number ≡ 0 → length text ≤ length out
+      → (p ≡ packed (stringDone (letters text)) (length text)) × (take (length text) out′ ≡ text)

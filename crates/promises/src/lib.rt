@@ -1,11 +1,18 @@
 // What was asked, on the code: each function calls public functions of the parts and nothing else of them, and its
 // contract is the demand, proved from their promises alone. What was asked of the definitions is in proofs/Demands.
 ghost use mathlib.Core.Path.{_≡_};
+ghost use Prim.Native.Nat.{_+_, _≤_};
 ghost use lib.ListN.{length};
 ghost use Rattle.theory.specs.Calls.{writeAnswer};
-ghost use Rattle.promises.specs.Demands.{Returned, ReadBack, Compared};
+ghost use Rattle.promises.specs.Demands.{Returned, ReadBack, Compared, RecordReturned};
 use check::same;
-use conn::{read_string, write_string};
+use conn::read_string;
+use conn::write_string;
+use record::Opened;
+use record::Packed;
+use record::read_head;
+use record::read_record;
+use record::write_record;
 use theory::Answer;
 
 pub struct Both {
@@ -26,11 +33,17 @@ pub fn read_write(
 {
     let a = read_string(s, vs, os, work);
     if a.number != 0 {
-        return Both { first: a, second: a };
+        return Both {
+            first: a,
+            second: a,
+        };
     }
     let n = 3 * s.len();
     let b = write_string(&vs[..n], &os[..n], a.v, 0, letters, walk, work);
-    Both { first: a, second: b }
+    Both {
+        first: a,
+        second: b,
+    }
 }
 
 // Demand 2: writing a mesh and reading it returns the mesh, renumbered by the walk table.
@@ -49,11 +62,17 @@ pub fn write_read(
 {
     let a = write_string(vs, os, v, gate, letters, walk, work);
     if a.number != 0 {
-        return Both { first: a, second: a };
+        return Both {
+            first: a,
+            second: a,
+        };
     }
     let t = vs.len() / 3;
     let b = read_string(&letters[..t], vs2, os2, work);
-    Both { first: a, second: b }
+    Both {
+        first: a,
+        second: b,
+    }
 }
 
 pub struct Alike {
@@ -105,4 +124,60 @@ pub fn same_mesh(
         second: b,
         same: equal,
     }
+}
+
+pub struct Again {
+    pub opened: Opened,
+    pub packed: Packed,
+}
+
+// Demand 2 for records: a record that is read, and its string and gate written again, comes back byte for byte.
+pub fn record_again(
+    bytes: &[u8],
+    vs: &mut [u32],
+    os: &mut [u32],
+    text: &mut [u8],
+    work: &mut [u32],
+) -> Again
+    ensures { λ r. ⌜ RecordReturned (now (bytes .entry)) (now (vs .entry)) (now (os .entry)) (now (work .entry)) (now (text .entry)) (r .opened) (r .packed) (now (text .exit)) ⌝ }
+{
+    let head = read_head(bytes);
+    let a = read_record(bytes, vs, os, work);
+    if a.number != 0 {
+        return Again {
+            opened: a,
+            packed: unwritten(),
+        };
+    }
+    if head.number != 0 {
+        return Again {
+            opened: a,
+            packed: unwritten(),
+        };
+    }
+    let start = head.start;
+    let end = end_of(start, head.len, bytes.len());
+    let p = write_record(&bytes[start..end], a.gate, text, work);
+    Again {
+        opened: a,
+        packed: p,
+    }
+}
+
+fn unwritten() -> Packed {
+    Packed {
+        number: 0,
+        place: 0,
+        t: 0,
+        v: 0,
+        length: 0,
+    }
+}
+
+// Where len bytes from start on end, of n bytes.
+fn end_of(start: usize, len: usize, n: usize) -> usize
+    requires { ⌜ start + len ≤ n ⌝ }
+    ensures { λ r. ⌜ r ≡ start + len ⌝ }
+{
+    start + len
 }

@@ -81,9 +81,11 @@ same-length-15 : tie.Need-same-length-15
 same-length-15 c = search needs
 
 returns-3 : tie.Need-returns-3
-returns-3 c = ( c .before .before .before .before .before .before .before .before .before .before .before .before .before .before .before .before .before .before .before .before .before .before .before .write-string .ensures .answer
-    , second-answer _ (c .before .before .before .before .before .before .before .before .before .before .before .before .before .write-string2 .ensures) (c .before .before .before .before .before .before .before .before .before .before .before .before .before .before .before .before .before .before .before .before .before .before .before .write-string .kept .1 .1 .1 .1 .1 .1 .0)
-    , compared (c .before .before .before .before .before .before .before .before .before .before .before .before .before .before .before .before .before .before .before .before .before .before .before .write-string .ensures) (c .before .before .before .before .before .before .before .before .before .before .before .before .before .write-string2 .ensures) (c .same .ensures) )
+returns-3 c = (
+  c .before .before .before .before .before .before .before .before .before .before .before .before .before .before .before .before .before .before .before .before .before .before .before .write-string .ensures .answer,
+  second-answer _ (c .before .before .before .before .before .before .before .before .before .before .before .before .before .write-string2 .ensures) (c .before .before .before .before .before .before .before .before .before .before .before .before .before .before .before .before .before .before .before .before .before .before .before .write-string .kept .1 .1 .1 .1 .1 .1 .0),
+  compared (c .before .before .before .before .before .before .before .before .before .before .before .before .before .before .before .before .before .before .before .before .before .before .before .write-string .ensures) (c .before .before .before .before .before .before .before .before .before .before .before .before .before .write-string2 .ensures) (c .same .ensures),
+)
 
 pub same-mesh-spec : {M : Type 1} → statement M
 same-mesh-spec =
