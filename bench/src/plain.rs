@@ -354,7 +354,8 @@ fn reach(os: &[u32], gate: u32, seen: &mut [u32], queue: &mut [u32]) -> usize {
     tail
 }
 
-/// Rules 8 to 12 and 15 in one sweep: whether none is broken. (Were O[c] = c, then 11 or 12 would be broken.)
+/// Rules 8 to 12 and 15 in one sweep: whether none is broken. (Were O[c] = c, then 11 or 12 would be broken. The second
+/// half of 11 at c is its first half at O[c].)
 fn sweep(vs: &[u32], os: &[u32], v: u32, gate: u32) -> bool {
     let n = vs.len();
     let os = &os[..n];
@@ -371,7 +372,6 @@ fn sweep(vs: &[u32], os: &[u32], v: u32, gate: u32) -> bool {
             }
             fine &= os[y] as usize == c + i;
             fine &= a[(i + 1) % 3] == vs[prev(y)];
-            fine &= a[(i + 2) % 3] == vs[next(y)];
         }
         if !fine {
             return false;
@@ -385,8 +385,8 @@ fn shaped(vs: &[u32], os: &[u32]) -> bool {
     vs.len() == os.len() && vs.len() % 3 == 0 && counted(vs.len() / 3)
 }
 
-/// The mesh check. After the sweep: with each vertex present, all triangles reached and t = 2v - 4, no vertex can have
-/// two rings, since a closed connected surface of t triangles has at most t / 2 + 2 rings.
+/// The mesh check. After the sweep the walk tells: with each vertex marked, all triangles visited and t = 2v - 4, no vertex
+/// can have two rings, since a closed connected surface of t triangles has at most t / 2 + 2 rings.
 pub fn check_mesh(vs: &[u32], os: &[u32], v: u32, gate: u32, work: &mut [u32]) -> Answer {
     if !shaped(vs, os) {
         return refused(1, 0);
@@ -395,16 +395,8 @@ pub fn check_mesh(vs: &[u32], os: &[u32], v: u32, gate: u32, work: &mut [u32]) -
     if work.len() < 12 * t {
         return refused(2, 0);
     }
-    let accepted = sweep(vs, os, v, gate) && {
-        let (seen, rest) = work.split_at_mut(t);
-        let (queue, rest) = rest.split_at_mut(t);
-        let here = &mut rest[..v as usize];
-        here.fill(0);
-        for &u in vs {
-            here[u as usize] = 1;
-        }
-        here.iter().all(|&x| x == 1) && reach(os, gate, seen, queue) == t
-    };
+    let (steps, rest) = work.split_at_mut(t);
+    let accepted = sweep(vs, os, v, gate) && trace(vs, os, v, gate, steps, rest);
     let refusal = if accepted { None } else { mesh_refusal(vs, os, v, gate, work) };
     work.fill(0);
     refusal.unwrap_or(done(t, v))

@@ -5,7 +5,7 @@
 --   writes-kept writes-rest      the same for write_string
 --   read-room write-room         what the checks 1 and 2 leave for the inner parts
 --   letters-kept letters-made    the inner part of read_string: a refusal, and the tables built
---   traceable walk-kept walk-made    the inner part of write_string
+--   walk-kept walk-made          the inner part of write_string
 use mathlib.Core.Bool.{Bool, _&&_, true}
 use mathlib.Core.List.{List, _++_}
 use mathlib.Core.Logic.{_≢_}
@@ -17,10 +17,10 @@ use lib.Ieee.{fits}
 use lib.ListN.{drop, length, length-replicate, replicate}
 use borrow.Author.Tests.{le-leb, leb-true}
 use Rattle.conn.specs.Inner.{ReadLetters, ReadRoom, WriteLetters, WriteRoom}
+use Rattle.sweep.specs.Judged.{Judges as SweepJudges}
 use Rattle.tables.specs.Built.{Built}
 use Rattle.theory.proofs.AnswerLaws.{count-few}
 use Rattle.theory.proofs.CallLaws.{Later, Outcome, cleared-later, filled-done, filled-refused, later-mesh, later-string, sized-rest, went-on}
-use Rattle.theory.proofs.MeshMeaning.{judged-accepted}
 use Rattle.theory.proofs.Neighbours.{later}
 use Rattle.theory.proofs.TestLaws.{and-left, and-right}
 use Rattle.theory.specs.Answer.{countOk, done, firstBroken, refused}
@@ -31,8 +31,8 @@ use Rattle.theory.specs.Tables.{tableO, tableV, vertices}
 use Rattle.theory.specs.Walk.{cornersOf, lettersOf, meshWalk, walk}
 use Rattle.theory.specs.Word.{wordOf}
 use Rattle.theory.specs.declared.Answer.{Answer}
-use Rattle.walk.proofs.Rows.{few}
-use Rattle.walk.specs.Calls.{Traceable, Traced}
+use Rattle.walk.proofs.Made.{corners-codes, letters-codes}
+use Rattle.walk.specs.Calls.{Spelt, cornersIn, lettersIn}
 
 -- a refusal is not number 0
 pub refusal : {a : Answer} (n at : ℕ) → a ≡ refused (suc n) at → a .number ≢ 0
@@ -177,21 +177,6 @@ write-room {vs} {os} {letters} {walk} {work} ok fits =
     let r = all-enough t (length letters) t (length walk) (12 * t) (length work) fits in
     record { shape = ok; string = r .0; table = r .1; room = r .2 }
 
--- what the walk asks, once the mesh is accepted and the work space is zero
-pub traceable :
-    {vs os letters walk work work′ : List ℕ} {v g : ℕ} {a : Answer} → WriteRoom vs os letters walk work
-    → a ≡ firstBroken (meshRungs vs os v g) (done (length vs / 3) v) → a .number ≡ 0
-    → work′ ≡ replicate (length work) 0 → Traceable vs os v g letters walk work′
-traceable {vs} {os} {work = work} {work′ = work′} {v = v} {g = g} lent e h z =
-    let same : length work′ ≡ length work = ap length z ∙ length-replicate {A = ℕ} (length work) 0 in
-    let room = lent .room in
-    record {
-      mesh = judged-accepted vs os v g (lent .shape) (ap (λ (r : Answer). r .number) (sym e) ∙ h);
-      enough = (lent .string, lent .table);
-      room = omega arith;
-      blank = z ∙ ap (λ (n : ℕ). replicate n 0) (sym same);
-    }
-
 module _ {vs os letters walk work work′ : List ℕ} {v g : ℕ} {a : Answer} where
   pub walk-kept :
       a ≡ firstBroken (meshRungs vs os v g) (done (length vs / 3) v) → a .number ≢ 0
@@ -204,14 +189,19 @@ module _ {vs os letters walk work work′ : List ℕ} {v g : ℕ} {a : Answer} w
         space = z;
       }
 
+  -- the steps that were kept in work₁ are spelt out
   pub walk-made :
-      {letters′ walk′ : List ℕ} → a ≡ firstBroken (meshRungs vs os v g) (done (length vs / 3) v) → a .number ≡ 0
-      → Traced vs os g letters walk letters′ walk′ → work′ ≡ replicate (length work) 0
+      {letters′ walk′ work₁ : List ℕ} → SweepJudges vs os v g a work₁ → a .number ≡ 0
+      → Spelt work₁ (length vs / 3) letters walk letters′ walk′ → work′ ≡ replicate (length work) 0
       → WriteLetters vs os v g letters walk work a letters′ walk′ work′
-  walk-made e h r z =
+  walk-made {work₁ = work₁} e h r z =
+      let q = meshWalk vs os g in
+      let ls = ap lettersIn (e .keeps h) ∙ letters-codes q in
+      let cs = ap cornersIn (e .keeps h) ∙ corners-codes q in
       record {
-        answer = e;
-        string = r .said ∙ sym (filled-done a (lettersOf (meshWalk vs os g)) letters h);
-        table = r .went ∙ sym (filled-done a (cornersOf (meshWalk vs os g)) walk h);
+        answer = e .answer;
+        string =
+            r .said ∙ ap (λ (y : List ℕ). y ++ drop (length y) letters) ls ∙ sym (filled-done a (lettersOf q) letters h);
+        table = r .went ∙ ap (λ (y : List ℕ). y ++ drop (length y) walk) cs ∙ sym (filled-done a (cornersOf q) walk h);
         space = z;
       }

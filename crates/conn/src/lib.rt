@@ -16,11 +16,11 @@ use judge::judge_letters;
 use lent::clear;
 use lent::count_ok;
 use lent::refuse;
-use mesh::judge_mesh;
 use mesh::shape_ok;
+use sweep::judge;
 use tables::build;
 use theory::Answer;
-use walk::trace;
+use walk::spell_out;
 
 // Whether three lengths are at least what is asked of them.
 fn enough(a: usize, n: usize, b: usize, m: usize, w: usize, k: usize) -> bool
@@ -91,7 +91,7 @@ pub fn check_mesh(vs: &[u32], os: &[u32], v: u32, gate: u32, work: &mut [u32]) -
     if work.len() < 12 * (vs.len() / 3) {
         return refuse(2, 0);
     }
-    let a = judge_mesh(vs, os, v, gate, work);
+    let a = judge(vs, os, v, gate, work);
     clear(work);
     a
 }
@@ -131,12 +131,12 @@ fn write_letters(
     requires { ⌜ WriteRoom (now vs) (now os) (now letters) (now walk) (now work) ⌝ }
     ensures { λ r. ⌜ WriteLetters (now (vs .entry)) (now (os .entry)) v gate (now (letters .entry)) (now (walk .entry)) (now (work .entry)) r (now (letters .exit)) (now (walk .exit)) (now (work .exit)) ⌝ }
 {
-    let a = judge_mesh(vs, os, v, gate, work);
-    clear(work);
-    if a.number != 0 {
-        return a;
+    let found = judge(vs, os, v, gate, work);
+    if found.number != 0 {
+        clear(work);
+        return found;
     }
-    trace(vs, os, v, gate, letters, walk, work);
+    spell_out(work, vs.len() / 3, letters, walk);
     clear(work);
-    a
+    found
 }

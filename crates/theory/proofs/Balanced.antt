@@ -90,11 +90,11 @@ module _ (lab : ℕ → ℕ) (sp : ℕ → Letter) (co : ℕ → ℕ) where
 
 module _ {lab opp : ℕ → ℕ} {t v g : ℕ} {mesh : Sphere lab opp t v g} {sp : ℕ → Letter} {co : ℕ → ℕ}
     (w : Walked mesh sp co) where
-  abbrev Marked : ℕ → ℕ → Type 0
+  abbrev pub Marked : ℕ → ℕ → Type 0
   Marked = Mark lab g sp co
 
   -- every vertex is marked in the end
-  covered : (u : ℕ) → u < v → Marked t u
+  pub covered : (u : ℕ) → u < v → Marked t u
   covered u h = go (mesh .present u h)
     where
       stays : (j y : ℕ) → j < t → Marked j y → Marked t y

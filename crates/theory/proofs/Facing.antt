@@ -14,9 +14,8 @@ use lib.Dec.{eqb}
 use borrow.Author.Tests.{eq-eqb}
 use Rattle.theory.proofs.CornerLaws.{Place, at-left, at-right, at-tip, place}
 use Rattle.theory.proofs.Counting.{bit-off, count}
-use Rattle.theory.proofs.Members.{or-cases, or-left, or-right}
 use Rattle.theory.proofs.Places.{bit-on}
-use Rattle.theory.proofs.TestLaws.{not-both}
+use Rattle.theory.proofs.TestLaws.{not-both, or-cases, or-left, or-right}
 use Rattle.theory.specs.Corner.{opposite, triangle}
 use Rattle.theory.specs.Lists.{mem}
 use Rattle.theory.specs.Mesh.{facing, touches}

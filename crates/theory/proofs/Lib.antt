@@ -67,6 +67,8 @@ pub mod LoopFits
 pub mod NewVertices
 pub mod Naming
 pub mod RoundTrip
+pub mod RingsFollow
+pub mod Covered
 pub mod CarriedWalk
 pub mod Renumbered
 pub mod MeshStrings

@@ -1,7 +1,6 @@
--- Laws of `mem` and of `||`: membership is being counted.
+-- Laws of `mem`: membership is being counted.
 use mathlib.Core.Bool.{Bool, _||_, false, true}
 use mathlib.Core.List.{List, [], _++_, _∷_}
-use mathlib.Core.Logic.{_⊎_, inl, inr}
 use mathlib.Core.Path.{_≡_, refl}
 use Prim.Native.Nat.{_+_, _≤_, ℕ}
 use native.Mathlib.Omega.{arith}
@@ -36,14 +35,3 @@ mem-append x (y ∷ a) b = go (eqb x y) (mem-append x a b)
     go : (q : Bool) → mem x (a ++ b) ≡ (mem x a || mem x b) → (q || mem x (a ++ b)) ≡ ((q || mem x a) || mem x b)
     go true e = refl
     go false e = e
-
-pub or-cases : (a b : Bool) → (a || b) ≡ true → (a ≡ true) ⊎ (b ≡ true)
-or-cases true b e = inl refl
-or-cases false b e = inr e
-
-pub or-left : (a b : Bool) → a ≡ true → (a || b) ≡ true
-or-left a b e = rw e
-
-pub or-right : (a b : Bool) → b ≡ true → (a || b) ≡ true
-or-right true b e = refl
-or-right false b e = e

@@ -15,9 +15,9 @@ use borrow.Author.Tests.{eq-eqb, eqb-true}
 use Rattle.theory.proofs.Counting.{bit, bit-off, count, count-append, pigeon}
 use Rattle.theory.proofs.Facing.{facing-count, facing-in, new, touches-at, touches-one}
 use Rattle.theory.proofs.Injections.{length-vals, vals, vals-in}
-use Rattle.theory.proofs.Members.{mem-append, mem-false, mem-true, or-cases, or-left}
+use Rattle.theory.proofs.Members.{mem-append, mem-false, mem-true}
 use Rattle.theory.proofs.Places.{bit-on}
-use Rattle.theory.proofs.TestLaws.{and-intro, and-left, and-right, not-both, not-is-true, true-or-false}
+use Rattle.theory.proofs.TestLaws.{and-intro, and-left, and-right, not-both, not-is-true, or-cases, or-left, true-or-false}
 use Rattle.theory.specs.Corner.{opposite, triangle}
 use Rattle.theory.specs.Lists.{mem}
 use Rattle.theory.specs.Mesh.{Reach, facing, here, over, reached, touches}

@@ -46,6 +46,9 @@ pub and-rest : (a b : Bool) → a ≡ true → (a && b) ≡ false → b ≡ fals
 and-rest true b p e = e
 and-rest false b p e = absurd (not-both false p refl)
 
+pub or-left : (a b : Bool) → a ≡ true → (a || b) ≡ true
+or-left a b h = rw h
+
 pub or-right : (a b : Bool) → b ≡ true → (a || b) ≡ true
 or-right true b h = refl
 or-right false b h = h

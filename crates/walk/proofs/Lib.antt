@@ -1,6 +1,7 @@
 pub mod TableLaws
 pub mod Rows
 pub mod Stepping
-pub mod Written
-pub mod Shape
+pub mod Made
 pub mod Tracing
+pub mod Written
+pub mod Spelling

@@ -3,16 +3,17 @@
 --   did-C did-S did-R did-L did-E did-end
 use mathlib.Core.List.{List}
 use mathlib.Core.Logic.{_≢_}
-use mathlib.Core.Path.{_≡_}
-use Prim.Native.Nat.{_+_, _-_, _<_, _≤_, ℕ}
+use mathlib.Core.Path.{_∙_, _≡_}
+use Prim.Native.Nat.{_*_, _+_, _-_, _<_, _≤_, ℕ}
 use native.Mathlib.Omega.{arith}
 use lib.ListN.{length, length-set, set}
 use Rattle.theory.specs.Corner.{left, opposite, right, triangle, vertex}
 use Rattle.theory.specs.Letter.{letter}
 use Rattle.theory.specs.declared.Letter.the-variants.{C, E, L, R, S}
 use Rattle.walk.proofs.Rows.{row-C, row-E, row-L, row-R, row-S, row-end}
+use Rattle.walk.proofs.TableLaws.{kept-high, kept-low}
 use Rattle.walk.specs.Calls.{Steppable, Stepped}
-use Rattle.walk.specs.Table.{entered, entry}
+use Rattle.walk.specs.Table.{entered, entry, keptTo}
 
 module _
     {vs os : List ℕ}
@@ -23,11 +24,15 @@ module _
     (eu : u ≡ vertex vs c)
     (el : l ≡ left (opposite os) c)
     (er : r ≡ right (opposite os) c) where
+  entering : (m : ℕ) → keptTo t m (entered work c) ≡ keptTo t m work
+  entering m = kept-low t m work (triangle c) 1 (omega (arith, h .here))
+
   pub did-C : {n : ℕ} → entry work c (t + u) ≡ 0
       → Stepped vs os t n c p work (record { letter = C; at = r; top = p; more = n }) (set (entered work c) (t + u) 1)
   did-C k =
       record {
         leads = λ v g steps st s. rw (eu, er) (row-C s (h .room) (h .within) (rw eu at k));
+        keeps = λ m b. kept-low t m (entered work c) (t + u) 1 (omega (arith, eu, h .tip)) ∙ entering m;
         near = omega arith;
         within = h .within;
         fewer = omega arith;
@@ -43,6 +48,7 @@ module _
     did-S a b =
         record {
           leads = λ v g steps st s. rw (el, er) (row-S s (h .room) (h .within) old (rw el at a) (rw er at b));
+          keeps = λ m b. kept-high t m (entered work c) (p - 1) l (omega arith) ∙ entering m;
           near = omega (arith, h .room);
           within = omega (arith, h .within);
           fewer = omega arith;
@@ -53,6 +59,7 @@ module _
     did-R a b =
         record {
           leads = λ v g steps st s. rw el (row-R s (h .room) (h .within) old (rw el at a) (rw er at b));
+          keeps = λ m b. entering m;
           near = omega arith;
           within = h .within;
           fewer = omega arith;
@@ -63,6 +70,7 @@ module _
     did-L a b =
         record {
           leads = λ v g steps st s. rw er (row-L s (h .room) (h .within) old (rw el at a) (rw er at b));
+          keeps = λ m b. entering m;
           near = omega arith;
           within = h .within;
           fewer = omega arith;
@@ -74,6 +82,7 @@ module _
     did-E a b e w =
         record {
           leads = λ v g steps st s. rw e (row-E s (h .room) (h .within) old (rw el at a) (rw er at b) w);
+          keeps = λ m b. entering m;
           near = omega arith;
           within = omega (arith, length-set work (triangle c) 1);
           fewer = omega arith;
@@ -84,6 +93,7 @@ module _
     did-end a b w =
         record {
           leads = λ v g steps st s. row-end s (h .room) (h .within) old (rw el at a) (rw er at b) w;
+          keeps = λ m b. entering m;
           near = omega arith;
           within = h .within;
           fewer = omega arith;

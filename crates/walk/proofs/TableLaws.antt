@@ -5,17 +5,19 @@
 --   visit                the triangle of a further step is visited
 --   visited-past         a store past the triangles leaves the visited ones
 --   marked-past mark     a store outside the vertices leaves the marks; one at the tip of a C makes the mark
---   no-visits gate       the table of zeros with the gate's two ends marked stands for no steps
+--   cleared-off          what is cleared is off
+--   no-visits gate       a table that is off, with the gate's two ends marked, stands for no steps
+--   kept-low kept-high kept-more    what is kept from 3t on: stores below and above leave it, one at its end is one more
 use mathlib.Core.Bool.{Bool, _||_, false, true}
-use mathlib.Core.List.{List, [], _∷_}
+use mathlib.Core.List.{List, [], _++_, _∷_}
 use mathlib.Core.Logic.{_≢_, _⊎_, inl, inr}
 use mathlib.Core.Path.{_∙_, _≡_, ap, refl, sym}
-use Prim.Native.Nat.{_*_, _+_, _<_, _≤_, ℕ}
-use native.Mathlib.Decide.{decLt, ℕ-discrete}
+use Prim.Native.Nat.{_*_, _+_, _<_, _≤_, suc, ℕ}
+use native.Mathlib.Decide.{ℕ-discrete}
 use native.Mathlib.Omega.{arith}
 use lib.Dec.{eqb}
-use lib.ListN.{List·getD-eq-default, getD, getD-replicate, length, length-replicate, length-set, replicate, set}
-use lib.Seq.{getD-set-other, getD-set-same}
+use lib.ListN.{List·getD-append, drop, getD, getD-replicate, length, length-replicate, length-set, replicate, set, take}
+use lib.Seq.{drop-append-le, drop-set-lt, getD-set-other, getD-set-same, length-take-le, take-set-le, take-set-lt, take-suc-set}
 use borrow.Author.Tests.{eq-eqb, ne-eqb}
 use Rattle.theory.proofs.WalkLetters.{third-first}
 use Rattle.theory.specs.Corner.{next, previous, triangle, vertex}
@@ -23,7 +25,7 @@ use Rattle.theory.specs.Lists.{mem}
 use Rattle.theory.specs.Walk.{Step, _＠_, marks, seen, tips}
 use Rattle.theory.specs.declared.Letter.{Letter}
 use Rattle.theory.specs.declared.Letter.the-variants.{C}
-use Rattle.walk.specs.Table.{MarkedIn, SeenIn, gateIn, on}
+use Rattle.walk.specs.Table.{MarkedIn, SeenIn, gateIn, keptTo, on}
 
 module _ (work : List ℕ) (i : ℕ) where
   pub on-other : (j x : ℕ) → j ≢ i → on (set work i x) j ≡ on work j
@@ -42,14 +44,12 @@ module _ (work : List ℕ) (i : ℕ) where
       go (yes e) = rw (e, getD-set-same work i 1 0 h, eq-eqb i i refl)
       go (no e) = rw (ne-eqb j i e) (on-other j 1 e)
 
-blank-off : (n i : ℕ) → on (replicate n 0) i ≡ false
-blank-off n i = go (decLt i n)
-  where
-    go : Dec (i < n) → on (replicate n 0) i ≡ false
-    go (yes h) = off-is (replicate n 0) i (getD-replicate n i 0 0 h)
-    go (no h) =
-        let long : length {A = ℕ} (replicate n 0) ≡ n = length-replicate {A = ℕ} n 0 in
-        off-is (replicate n 0) i (List·getD-eq-default (replicate n 0) 0 (omega arith))
+-- what is cleared is off
+pub cleared-off : (n : ℕ) (work : List ℕ) (i : ℕ) → i < n → on (replicate n 0 ++ drop n work) i ≡ false
+cleared-off n work i h =
+    let z : List ℕ = replicate n 0 in
+    let long : length z ≡ n = length-replicate {A = ℕ} n 0 in
+    off-is (z ++ drop n work) i (List·getD-append z (drop n work) 0 i (omega arith) ∙ getD-replicate n i 0 0 h)
 
 eqb-add : (t u a : ℕ) → eqb (t + u) (t + a) ≡ eqb u a
 eqb-add t u a = go (ℕ-discrete u a)
@@ -94,35 +94,55 @@ swap false false = refl
 
 module _
     (vs : List ℕ)
-    (t v g n : ℕ)
-    (room : t + v ≤ n)
+    (t v g : ℕ)
+    (work : List ℕ)
+    (off : (i : ℕ) → i < t + v → on work i ≡ false)
+    (room : t + v ≤ length work)
     (a : vertex vs (next g) < v)
     (b : vertex vs (previous g) < v) where
   -- after the first store
   abbrev half : List ℕ
-  half = set (replicate n 0) (t + vertex vs (next g)) 1
+  half = set work (t + vertex vs (next g)) 1
 
-  long : length {A = ℕ} (replicate n 0) ≡ n
-  long = length-replicate {A = ℕ} n 0
+  longer : length half ≡ length work
+  longer = length-set work (t + vertex vs (next g)) 1
 
-  longer : length half ≡ n
-  longer = length-set (replicate n 0) (t + vertex vs (next g)) 1 ∙ long
-
-  pub no-visits : SeenIn t [] (gateIn vs t g (replicate n 0))
+  pub no-visits : SeenIn t [] (gateIn vs t g work)
   unfolding seen
   no-visits =
       visited-past t [] half
-      (visited-past t [] (replicate n 0) (λ d h. blank-off n (triangle d)) (t + vertex vs (next g)) 1 (omega arith))
+      (visited-past t [] work (λ d h. off (triangle d) (omega arith)) (t + vertex vs (next g)) 1 (omega arith))
       (t + vertex vs (previous g)) 1 (omega arith)
 
-  pub gate : MarkedIn vs t v g [] (gateIn vs t g (replicate n 0))
+  pub gate : MarkedIn vs t v g [] (gateIn vs t g work)
   unfolding marks tips mem
   gate u h =
       rw (
         on-set half (t + vertex vs (previous g)) (t + u) (omega (arith, longer)),
-        on-set (replicate n 0) (t + vertex vs (next g)) (t + u) (omega (arith, long)),
+        on-set work (t + vertex vs (next g)) (t + u) (omega arith),
         eqb-add t u (vertex vs (previous g)),
         eqb-add t u (vertex vs (next g)),
-        blank-off n (t + u),
+        off (t + u) (omega arith),
       )
       (swap (eqb u (vertex vs (next g))) (eqb u (vertex vs (previous g))))
+
+-- ---- what is kept from 3t on
+
+module _ (t k : ℕ) (work : List ℕ) (i x : ℕ) where
+  pub kept-low : i < 3 * t → keptTo t k (set work i x) ≡ keptTo t k work
+  kept-low h =
+      ap (λ (y : List ℕ). drop (3 * t) y) (take-set-lt (3 * t + k) work i x (omega arith))
+      ∙ drop-set-lt (3 * t) (take (3 * t + k) work) i x h
+
+  pub kept-high : 3 * t + k ≤ i → keptTo t k (set work i x) ≡ keptTo t k work
+  kept-high h = ap (λ (y : List ℕ). drop (3 * t) y) (take-set-le (3 * t + k) work i x h)
+
+pub kept-more : (t k : ℕ) (work : List ℕ) (x : ℕ) → 3 * t + k < length work
+    → keptTo t (k + 1) (set work (3 * t + k) x) ≡ keptTo t k work ++ (x ∷ [])
+kept-more t k work x h =
+    let m = 3 * t in
+    let e : m + (k + 1) ≡ suc (m + k) = omega arith in
+    let l = length-take-le (m + k) work (omega arith) in
+    rw e
+    (ap (λ (y : List ℕ). drop m y) (take-suc-set work (m + k) x h)
+    ∙ drop-append-le m (take (m + k) work) (x ∷ []) (omega arith))

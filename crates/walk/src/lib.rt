@@ -1,19 +1,21 @@
 // The encoder's loop (document 01, "Walk and letters"): t steps at most from the gate corner, each with its letter.
 //
-// work is one table: work[k] for triangle k, work[t + u] for vertex u, not 0 where visited or marked; the waiting lefts
-// are a stack that grows down from its end, its top at p.
+// work is one table: work[k] for triangle k, work[t + u] for vertex u, not 0 where visited or marked; the steps made stand
+// from 3t on; the waiting lefts are a stack that grows down from its end, its top at p.
 ghost use mathlib.Core.Path.{_≡_};
 ghost use Prim.Native.Nat.{_+_, _*_, _≤_, _<_};
-ghost use lib.ListN.{set};
+ghost use lib.ListN.{length, set};
 ghost use Rattle.theory.specs.Corner.{vertex};
+ghost use Rattle.theory.specs.Letter.{byte};
 ghost use Rattle.walk.specs.Table.{gateIn};
-ghost use Rattle.walk.specs.Calls.{Steppable, Stepped, Traceable, Traced};
+ghost use Rattle.walk.specs.Calls.{Steppable, Stepped, Traceable, Traced, Spelt};
 use corner::left_of;
 use corner::next_of;
 use corner::previous_of;
 use corner::right_of;
 use lent::at;
 use lent::byte_of;
+use lent::clear_front;
 use lent::put;
 use lent::wide;
 use theory::Letter;
@@ -104,33 +106,48 @@ fn mark_gate(vs: &[u32], work: &mut [u32], t: usize, g: usize)
     mark_tip(vs, work, t, b);
 }
 
-// The letters and the corners of the walk from the gate corner g.
-pub fn trace(
-    vs: &[u32],
-    os: &[u32],
-    v: u32,
-    g: u32,
-    letters: &mut [u8],
-    walk: &mut [u32],
-    work: &mut [u32],
-)
-    requires { ⌜ Traceable (now vs) (now os) v g (now letters) (now walk) (now work) ⌝ }
-    ensures { λ _. ⌜ Traced (now (vs .entry)) (now (os .entry)) g (now (letters .entry)) (now (walk .entry)) (now (letters .exit)) (now (walk .exit)) ⌝ }
+// A step at corner c with the letter a, kept as one number.
+fn keep(work: &mut [u32], i: usize, c: usize, a: Letter)
+    requires { ⌜ (i < length (now work)) × (c < 196608) ⌝ }
+    ensures { λ _. ⌜ now (work .exit) ≡ set (now (work .entry)) i (256 * c + byte a) ⌝ }
+{
+    let b = byte_of(a) as u32;
+    work[i] = 256 * (c as u32) + b;
+}
+
+// The walk from the gate corner g, its steps kept in work from 3t on.
+pub fn trace(vs: &[u32], os: &[u32], v: u32, g: u32, work: &mut [u32])
+    requires { ⌜ Traceable (now vs) (now os) v g (now work) ⌝ }
+    ensures { λ _. ⌜ Traced (now (vs .entry)) (now (os .entry)) v g (now (work .exit)) ⌝ }
 {
     let t = vs.len() / 3;
     let mut c = wide(g);
     let mut p = work.len();
     let mut n = t;
     let mut k = 0;
+    clear_front(work, t + wide(v));
     mark_gate(vs, work, t, c);
     while 0 < n {
-        walk[k] = c as u32;
         let s = step(vs, os, work, t, n - 1, c, p);
         let a = s.letter;
-        letters[k] = byte_of(a);
+        keep(work, 3 * t + k, c, a);
         c = s.at;
         p = s.top;
         n = s.more;
+        k += 1;
+    }
+}
+
+// The letters and the corners of the t steps that are kept.
+pub fn spell_out(work: &[u32], t: usize, letters: &mut [u8], walk: &mut [u32])
+    requires { ⌜ (t ≤ 65536) × (4 * t ≤ length (now work)) × (t ≤ length (now letters)) × (t ≤ length (now walk)) ⌝ }
+    ensures { λ _. ⌜ Spelt (now (work .entry)) t (now (letters .entry)) (now (walk .entry)) (now (letters .exit)) (now (walk .exit)) ⌝ }
+{
+    let mut k = 0;
+    while k < t {
+        let x = work[3 * t + k];
+        letters[k] = (x % 256) as u8;
+        walk[k] = x / 256;
         k += 1;
     }
 }

@@ -28,8 +28,8 @@ refuse-requires-2 c κs = search needs
 returns-2 : tie.Need-returns-2
 returns-2 c = checks-kept (stopped-second (sym (c .before .before .before .shape-ok .ensures) ∙ not-false _ (c .before .before .if1 .left)) (lt-leb _ _ (c .before .if2 .taken)) (c .refuse2 .ensures))
 
-judge-mesh-requires : tie.Need-judge-mesh-requires
-judge-mesh-requires c κs = (sym (c .before .before .before .shape-ok .ensures) ∙ not-false _ (c .before .before .if1 .left), c .before .if2 .left)
+judge-requires : tie.Need-judge-requires
+judge-requires c κs = (sym (c .before .before .before .shape-ok .ensures) ∙ not-false _ (c .before .before .if1 .left), c .before .if2 .left)
 
 clear-requires : tie.Need-clear-requires
 clear-requires c κs = search needs
@@ -39,8 +39,8 @@ same-length c = search needs
 
 returns-3 : tie.Need-returns-3
 returns-3 c = let judged = c .before .before .before .before .before .before in
-    checks-rest (sym (c .before .before .before .before .before .before .before .before .before .before .shape-ok .ensures) ∙ not-false _ (c .before .before .before .before .before .before .before .before .before .if1 .left)) (c .before .before .before .before .before .before .before .before .if2 .left) (judged .judge-mesh .ensures)
-    (c .before .before .clear .ensures ∙ ap (λ (n : ℕ). replicate n 0) (judged .judge-mesh .kept .1 .1 .1 .1 .0))
+    checks-rest (sym (c .before .before .before .before .before .before .before .before .before .before .shape-ok .ensures) ∙ not-false _ (c .before .before .before .before .before .before .before .before .before .if1 .left)) (c .before .before .before .before .before .before .before .before .if2 .left) (judged .judge .ensures .answer)
+    (c .before .before .clear .ensures ∙ ap (λ (n : ℕ). replicate n 0) (judged .judge .kept .1 .1 .1 .1 .0))
 
 pub check-mesh-spec : {M : Type 1} → statement M
 check-mesh-spec =
@@ -52,7 +52,7 @@ check-mesh-spec =
     mul-if2
     refuse-requires-2
     returns-2
-    judge-mesh-requires
+    judge-requires
     clear-requires
     same-length
     returns-3)

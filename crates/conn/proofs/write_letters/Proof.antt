@@ -1,15 +1,17 @@
--- `write_letters` meets its contract: a refusal is answered before an output is touched; an accepted mesh is walked on a
--- work space that is all zero.
+-- `write_letters` meets its contract: a refusal is answered before an output is touched; the walk of an accepted mesh, which
+-- the judge kept, is spelt out. The work space is cleared once, at the end.
 use mathlib.Core.Path.{_∙_, ap}
-use Prim.Native.Nat.{ℕ}
+use native.Mathlib.Omega.{arith}
 use lib.ListN.{replicate}
 use borrow.Author.Needs.{needs}
-use Rattle.conn.proofs.Outcomes.{traceable, walk-kept, walk-made}
+use Prim.Native.Nat.{ℕ}
+use Rattle.conn.proofs.Outcomes.{walk-kept, walk-made}
 use Rattle.conn.proofs.write_letters.Statement.{statement}
 use Rattle.conn.proofs.write_letters.Tie as tie
+use Rattle.theory.proofs.MeshLaws.{shape-of}
 
-judge-mesh-requires : tie.Need-judge-mesh-requires
-judge-mesh-requires c κs = (c .before .before .before .before .before .before .pre .shape, c .before .before .before .before .before .before .pre .room)
+judge-requires : tie.Need-judge-requires
+judge-requires c κs = search needs
 
 clear-requires : tie.Need-clear-requires
 clear-requires c κs = search needs
@@ -18,15 +20,18 @@ same-length : tie.Need-same-length
 same-length c = search needs
 
 returns : tie.Need-returns
-returns c = let judged = c .before .before .before .before .before .before .before .before in
-    walk-kept (judged .judge-mesh .ensures) (c .if1 .taken)
-    (c .before .before .before .before .clear .ensures ∙ ap (λ (n : ℕ). replicate n 0) (judged .judge-mesh .kept .1 .1 .1 .1 .0))
+returns c =
+    let z = c .before .before in
+    let j = z .before .before .before .before .before .before in
+    walk-kept (j .judge .ensures .answer) (z .before .before .if1 .taken)
+    (z .clear .ensures ∙ ap (λ (n : ℕ). replicate n 0) (j .judge .kept .1 .1 .1 .1 .0))
 
-trace-requires : tie.Need-trace-requires
-trace-requires c κs =
-    let judged = c .before .before .before .before .before .before .before .before .before .before .before in
-    let clean = c .before .before .before .before .before .before .before .clear .ensures ∙ ap (λ (n : ℕ). replicate n 0) (judged .judge-mesh .kept .1 .1 .1 .1 .0) in
-    traceable (c .before .before .before .before .before .before .before .before .before .before .before .before .before .before .before .before .before .before .pre) (judged .judge-mesh .ensures) (c .before .before .before .if1 .left) clean
+spell-out-requires : tie.Need-spell-out-requires
+spell-out-requires c κs =
+    let j = c .before .before .before .before .before .before .before in
+    let s = j .before .before .before .before .before .before .before in
+    let h = shape-of (s .args .vs .now) (s .args .os .now) (s .pre .shape) in
+    (h .few, omega (arith, s .pre .room, j .judge .kept .1 .1 .1 .1 .0), s .pre .string, s .pre .table)
 
 clear-requires-2 : tie.Need-clear-requires-2
 clear-requires-2 c κs = search needs
@@ -41,19 +46,23 @@ same-length-4 : tie.Need-same-length-4
 same-length-4 c = search needs
 
 returns-2 : tie.Need-returns-2
-returns-2 c = let judged = c .before .before .before .before .before .before .before .before .before .before .before .before .before .before .before .before .before .before .before .before .before .before in
-    let same = c .before .before .before .before .before .before .before .before .before .before .trace .kept .1 .1 .1 .1 .1 .1 .0 ∙ (c .before .before .before .before .before .before .before .before .before .before .before .before .before .before .before .before .before .before .clear .kept .0 ∙ judged .judge-mesh .kept .1 .1 .1 .1 .0) in
-    walk-made (judged .judge-mesh .ensures) (c .before .before .before .before .before .before .before .before .before .before .before .before .before .before .if1 .left) (c .before .before .before .before .before .before .before .before .before .before .trace .ensures) (c .before .before .clear2 .ensures ∙ ap (λ (n : ℕ). replicate n 0) same)
+returns-2 c =
+    let z = c .before .before in
+    let o = z .before .before .before .before .before .before in
+    let e = o .before .before .before .before in
+    let j = e .before .before .before .before in
+    walk-made (j .judge .ensures) (e .if1 .left) (o .spell-out .ensures)
+    (z .clear2 .ensures ∙ ap (λ (n : ℕ). replicate n 0) (j .judge .kept .1 .1 .1 .1 .0))
 
 pub write-letters-spec : {M : Type 1} → statement M
 write-letters-spec =
     tie.close
     (tie.spec
-    judge-mesh-requires
+    judge-requires
     clear-requires
     same-length
     returns
-    trace-requires
+    spell-out-requires
     clear-requires-2
     same-length-2
     same-length-3
