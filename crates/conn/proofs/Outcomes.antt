@@ -13,7 +13,6 @@ use mathlib.Core.Path.{_∙_, _≡_, ap, sym}
 use Prim.Native.Nat.{_*_, _/_, _≤_, suc, ℕ}
 use native.Mathlib.Omega.{arith}
 use lib.Dec.{leb}
-use lib.Ieee.{fits}
 use lib.ListN.{drop, length, length-replicate, replicate}
 use borrow.Author.Tests.{le-leb, leb-true}
 use Rattle.conn.specs.Inner.{ReadLetters, ReadRoom, WriteLetters, WriteRoom}

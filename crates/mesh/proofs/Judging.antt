@@ -22,7 +22,6 @@ use Rattle.theory.specs.Corner.{inside}
 use Rattle.theory.specs.Lists.{least}
 use Rattle.theory.specs.Mesh.{apartAt, belowAt, gluedAt, meshRungs, pairedAt, reachedAt, ringedAt}
 use Rattle.theory.specs.declared.Answer.{Answer}
-use base.Logic.{ex}
 
 module _ (n : ℕ) (ok : ℕ → Bool) (k : ℕ) (rs : List Rung) (a : Answer) (x : ℕ) (e : x ≡ least ok k) where
   stops : x < k → (r : Answer) → r ≡ refused n x → r ≡ firstBroken (each n ok k ∷ rs) a

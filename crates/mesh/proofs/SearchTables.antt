@@ -27,7 +27,6 @@ use Rattle.theory.specs.Lists.{least, mem}
 use Rattle.theory.specs.Mesh.{reached, reachedAt}
 use Rattle.theory.specs.Walk.{seen}
 use Rattle.theory.specs.Word.{size}
-use base.Logic.{ex}
 
 search-eq : {r s : Search} → r .seen ≡ s .seen → r .stack ≡ s .stack → r ≡ s
 search-eq p q i = record { seen = p i; stack = q i }

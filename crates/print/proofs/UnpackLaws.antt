@@ -40,7 +40,6 @@ use Rattle.theory.specs.Lists.{mem}
 use Rattle.theory.specs.Tables.{tableO, tableV, vertices}
 use Rattle.theory.specs.Word.{size, wordOf}
 use Rattle.theory.specs.declared.Answer.{Answer}
-use denote.Steps.{closes}
 
 pub ready-sizes : (n m k l : ℕ) → ready n m k l ≡ true → (n ≡ 2400) × (m ≡ 2400) × (k ≡ 9600) × (textRoom ≤ l)
 unfolding ready

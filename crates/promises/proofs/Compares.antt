@@ -17,7 +17,6 @@ use Rattle.theory.specs.Corner.{opposite, vertex}
 use Rattle.theory.specs.Renumber.{Renumbering, byWalk}
 use Rattle.theory.specs.Walk.{cornersOf, lettersOf, meshWalk, walk}
 use Rattle.theory.specs.declared.Answer.{Answer}
-use denote.Steps.{only}
 
 -- a test of two lists for being equal
 abbrev pub Tells : Bool → List ℕ → List ℕ → Type 0

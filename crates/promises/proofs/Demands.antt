@@ -33,7 +33,6 @@ use Rattle.theory.specs.Tables.{tableO, tableV}
 use Rattle.theory.specs.Walk.{cornersOf, lettersOf, meshWalk, walk}
 use Rattle.theory.specs.Word.{Closes, Sound, Word, size, spell, width, wordOf}
 use Rattle.theory.specs.declared.Answer.{Answer}
-use denote.Ref.{name}
 
 pub demand-1-settled : {s vs os work vs′ os′ work′ vs″ os″ work″ : List ℕ} {a b : Answer}
     → Reads s vs os work a vs′ os′ work′ → Reads s vs os work b vs″ os″ work″

@@ -31,9 +31,6 @@ use Rattle.theory.specs.Tables.{tableO, tableV}
 use Rattle.theory.specs.Walk.{cornersOf, lettersOf, meshWalk, walk}
 use Rattle.theory.specs.Word.{wordOf}
 use Rattle.theory.specs.declared.Answer.{Answer}
-use denote.Ref.{name}
-use denote.Struct.Rest.{rest}
-use types.Run.{returns}
 
 -- what number 1 leaves of the lengths
 pub lengths-of : (vs os : List ℕ) → shapeOk vs os ≡ true

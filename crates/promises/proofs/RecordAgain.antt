@@ -12,10 +12,8 @@ use mathlib.Core.Path.{_∙_, _≡_, ap, refl, sym}
 use Prim.Native.Nat.{_*_, _+_, _-_, _≤_, zero, ℕ}
 use native.Mathlib.Omega.{arith}
 use lib.Dec.{leb}
-use lib.Ieee.{fits}
 use lib.ListN.{drop, length, length-replicate, replicate, take}
 use borrow.Author.Tests.{leb-true}
-use mir.Syntax.{named}
 use Rattle.promises.specs.Demands.{RecordReturned}
 use Rattle.record.proofs.OpenLaws.{head-part, open-refused}
 use Rattle.record.proofs.RoundTrip.{read-written}
@@ -32,8 +30,6 @@ use Rattle.theory.specs.Answer.{refused}
 use Rattle.theory.specs.Calls.{cleared}
 use Rattle.theory.specs.Judge.{stringDone}
 use Rattle.theory.specs.Lists.{back, mem}
-use denote.Struct.Rest.{rest}
-use types.Run.{returns}
 
 -- the part of the record that the head says
 pub head-letters : (text : List ℕ) (h : Head) (e : ℕ) → h ≡ headOf text → h .number ≡ 0 → e ≡ h .start + h .len

@@ -10,7 +10,6 @@ use Prim.Native.Nat.{_*_, _+_, _/_, _≤_, zero, ℕ}
 use native.Mathlib.Omega.{arith}
 use lib.ListN.{drop, length, length-replicate, take}
 use lib.Seq.{take-append-seam}
-use mir.Syntax.{wrote}
 use Rattle.promises.specs.Demands.{Returned}
 use Rattle.theory.proofs.CallLaws.{cleared-later, filled-done}
 use Rattle.theory.proofs.CallsDone.{ReadDone, read-done, write-goes}
@@ -28,8 +27,6 @@ use Rattle.theory.specs.Tables.{tableO, tableV}
 use Rattle.theory.specs.Walk.{cornersOf, lettersOf, meshWalk, walk}
 use Rattle.theory.specs.Word.{size, spell, wordOf}
 use Rattle.theory.specs.declared.Answer.{Answer}
-use denote.Struct.Steps.{spelt}
-use types.Run.{returns}
 
 -- the part of a filled table that was made
 pub first-part : (a : Answer) (made old : List ℕ) {tab : List ℕ} (n : ℕ) → a .number ≡ 0 → tab ≡ filled a made old → length made ≡ n

@@ -8,7 +8,6 @@ use mathlib.Core.List.{List, [], _++_, _∷_}
 use Prim.Native.Nat.{ℕ}
 use Rattle.text.specs.Decimal.{decimal}
 use Rattle.text.specs.Line.{lineEnd}
-use denote.Struct.Rest.{rest}
 
 -- "form="
 abbrev pub formKey : List ℕ

@@ -22,8 +22,6 @@ use Rattle.theory.proofs.RingTests.{first-at}
 use Rattle.theory.specs.Corner.{vertex}
 use Rattle.theory.specs.Mesh.{firstCorner}
 use Rattle.theory.specs.Word.{before}
-use denote.Struct.Rest.{rest}
-use types.Kit.{later}
 
 pub tallied-in : (vs work : List ℕ) (c u : ℕ) → u ≡ vertex vs c → u < length vs
     → set (set work u (getD work u 0 + 1)) (length vs + u) c ≡ tallied vs c work

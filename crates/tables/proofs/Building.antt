@@ -12,7 +12,6 @@ use Rattle.theory.proofs.LetterLaws.{is}
 use Rattle.theory.proofs.WordLaws.{length-spell, word-of-spell}
 use Rattle.theory.specs.Tables.{tableO, tableV, vertices}
 use Rattle.theory.specs.Word.{size, spell, wordOf}
-use denote.Struct.Steps.{spelt}
 
 pub built : (s vs os work vs′ os′ vs₁ : List ℕ) → Buildable s vs os work → ZipDone s os vs os′ vs₁
     → vs′ ≡ fillRun s 0 2 os′ vs₁ → Built s vs′ os′

@@ -10,7 +10,6 @@ use mathlib.Core.Path.{_∙_, _≡_, ap, refl, sym}
 use Prim.Native.Nat.{_*_, _+_, _<_, _≤_, suc, ℕ}
 use native.Mathlib.Numerals.{add-one}
 use native.Mathlib.Omega.{arith}
-use lib.Ieee.{round}
 use lib.ListN.{List·getD-append, drop, drop-of-length-le, getD, length, set, take}
 use lib.Seq.{append-snoc, drop-cons, getD-at, getD-take, length-take-le, set-at, take-length, take-suc}
 use borrow.Author.Tests.{ne-eqb}

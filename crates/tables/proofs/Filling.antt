@@ -17,7 +17,6 @@ use Rattle.theory.specs.Corner.{next, previous}
 use Rattle.theory.specs.Letter.{letter}
 use Rattle.theory.specs.declared.Letter.{Letter}
 use Rattle.theory.specs.declared.Letter.the-variants.{C, E, L, R, S}
-use base.Logic.{ex}
 
 module _ (os vs : List ℕ) (c x y z : ℕ) (e : x ≡ getD os c 0) (g : z ≡ getD vs y 0) where
   pub after-at : y ≡ next x → z ≡ afterFacing os vs c

@@ -6,7 +6,6 @@ use mathlib.Core.List.{List, [], _++_, _∷_, append-nil}
 use mathlib.Core.Path.{_∙_, _≡_, ap, refl, subst, sym}
 use Prim.Native.Nat.{_*_, _+_, ℕ}
 use native.Mathlib.Omega.{arith}
-use lib.Ieee.{lt}
 use lib.ListN.{length}
 use lib.Seq.{ext-getD}
 use Rattle.tables.proofs.Joining.{noted, piled, piled-last, run, top-is, zipJoins}

@@ -9,7 +9,6 @@ use mathlib.Core.List.{List, _∷_}
 use mathlib.Core.Path.{_∙_, _≡_, ap, refl, sym}
 use Prim.Native.Nat.{_%_, _*_, _-_, _/_, _<_, _≤_, ℕ}
 use native.Mathlib.Omega.{arith}
-use lib.Ieee.Positive.{above}
 use lib.ListN.{drop, length, length-set, set, take}
 use lib.Seq.{take-set-le}
 use borrow.Author.Tests.{ne-eqb}

@@ -25,7 +25,6 @@ use Rattle.theory.specs.Tables.{links, tableO, tableV}
 use Rattle.theory.specs.Word.{Sound, Word, news, size, spell, wC, wE, wL, wR, wS, width}
 use Rattle.theory.specs.declared.Letter.{Letter}
 use Rattle.theory.specs.declared.Letter.the-variants.{C, E, L, R, S}
-use denote.Struct.Rest.{rest}
 
 module _ (vt vs₀ ot : List ℕ) (same : length vs₀ ≡ length vt) where
   -- table vt up to corner i

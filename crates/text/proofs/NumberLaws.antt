@@ -10,7 +10,6 @@ use Prim.Native.Nat.{_%_, _*_, _+_, _-_, _/_, _<_, _≤_, suc, zero, ℕ}
 use native.Mathlib.Decide.{ℕ-discrete}
 use native.Mathlib.Omega.{arith}
 use lib.Dec.{leb}
-use lib.Ieee.Positive.{above}
 use lib.ListN.{getD, length}
 use borrow.Author.Tests.{eq-eqb, le-leb, leb-true, lt-leb}
 use Rattle.text.proofs.DecimalLaws.{allDigits-append, decimal-big, decimal-small, digit-high, digit-low, tens, valueAfter-snoc}
@@ -18,7 +17,6 @@ use Rattle.text.proofs.Induction.{snoc-induction}
 use Rattle.text.specs.Decimal.{allDigits, decimal, digitsAfter, found, isDigit, isNumber, leadsWell, missing, number, value, valueAfter}
 use Rattle.theory.proofs.TestLaws.{and-left, and-right}
 use Rattle.theory.specs.Lists.{front, some, tail}
-use types.Kit.{split}
 
 -- ---- read, then written
 

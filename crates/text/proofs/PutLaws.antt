@@ -17,7 +17,6 @@ use Rattle.text.specs.Line.{after}
 use Rattle.text.specs.Put.{Wrote, put}
 use Rattle.theory.proofs.CornerLaws.{place}
 use Rattle.theory.specs.Word.{before}
-use types.Run.{first}
 
 module _ (out : List ℕ) (at : ℕ) where
   head-length : (s : List ℕ) → at ≤ length out → length (take at out ++ s) ≡ at + length s

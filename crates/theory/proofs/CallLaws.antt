@@ -12,7 +12,6 @@ use mathlib.Core.Logic.{_≢_}
 use mathlib.Core.Path.{_∙_, _≡_, refl, sym}
 use Prim.Native.Nat.{_/_, ℕ}
 use lib.Dec.{ltb}
-use lib.Ieee.{fits}
 use lib.ListN.{drop, length, replicate}
 use borrow.Author.Tests.{ne-eqb}
 use Rattle.theory.proofs.AnswerLaws.{whole-passed, whole-stops}
@@ -28,12 +27,14 @@ abbrev pub EachRung : (ℕ → Type 0) → List Rung → Type 0
 EachRung P [] = Unit {0}
 EachRung P (r ∷ rs) = P (r .number) × EachRung P rs
 
-pub rungs-keep : (P : ℕ → Type 0) (rs : List Rung) (a : Answer) → EachRung P rs → P (a .number) → P (firstBroken rs a .number)
+pub rungs-keep : (P : ℕ → Type 0) (rs : List Rung) (a : Answer) → EachRung P rs → P (a .number)
+    → P (firstBroken rs a .number)
 unfolding firstBroken
 rungs-keep P [] a h p = p
 rungs-keep P (r ∷ rs) a h p = go (ltb (r .place) (r .limit)) (rungs-keep P rs a (h .1) p)
   where
-    go : (b : Bool) → P (firstBroken rs a .number) → P (cond b (refused (r .number) (r .place)) (firstBroken rs a) .number)
+    go : (b : Bool) → P (firstBroken rs a .number)
+        → P (cond b (refused (r .number) (r .place)) (firstBroken rs a) .number)
     go true q = h .0
     go false q = q
 
@@ -86,7 +87,8 @@ cleared-second work = refl
 
 -- ---- a call as a whole: its answer and its work space
 
-pub record Outcome (shape fits : Bool) (rs : List Rung) (d : Answer) (work : List ℕ) (a : Answer) (work′ : List ℕ) : Type 0 where
+pub record Outcome (shape fits : Bool) (rs : List Rung) (d : Answer) (work : List ℕ) (a : Answer)
+    (work′ : List ℕ) : Type 0 where
   pub answer : a ≡ firstBroken (whole 1 shape ∷ roomRung fits ∷ rs) d
   pub space : work′ ≡ cleared sizes a work
 
@@ -100,7 +102,8 @@ module _ {shape fits : Bool} {rs : List Rung} {d : Answer} {work : List ℕ} {a 
       record { answer = e ∙ sym (sized-second shape fits rs d h f); space = rw e (sym (cleared-second work)) }
 
   pub went-on :
-      {work′ : List ℕ} → shape ≡ true → fits ≡ true → a ≡ firstBroken rs d → Later (a .number) → work′ ≡ replicate (length work) 0
+      {work′ : List ℕ} → shape ≡ true → fits ≡ true → a ≡ firstBroken rs d → Later (a .number) → work′ ≡ replicate
+      (length work) 0
       → Outcome shape fits rs d work a work′
   went-on h f e l z =
       record { answer = e ∙ sym (sized-rest shape fits rs d h f); space = z ∙ sym (cleared-later a work l) }

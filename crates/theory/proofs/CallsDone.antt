@@ -1,6 +1,7 @@
 -- Calls that answer done: what that says of the input, and when it happens.
 --
---   read-done read-goes      read_string answers done exactly if the string closes, its count is right and the tables have room
+--   read-done read-goes      read_string answers done exactly if the string closes, its count is right and the tables
+--                            have room
 --   write-done write-goes    write_string answers done exactly if the mesh is accepted and the outputs have room
 use mathlib.Core.Bool.{Bool, _&&_, true}
 use mathlib.Core.List.{List, _∷_}
@@ -8,13 +9,10 @@ use mathlib.Core.Path.{_∙_, _≡_, ap}
 use Prim.Native.Nat.{_*_, _/_, _≤_, ℕ}
 use native.Mathlib.Omega.{arith}
 use lib.Dec.{leb}
-use lib.Ieee.{fits}
 use lib.ListN.{length}
 use borrow.Author.Tests.{le-leb, leb-true}
-use mir.Syntax.{named}
 use Rattle.theory.proofs.CallLaws.{sized-rest}
 use Rattle.theory.proofs.Closing.{answer-closes, closes-answer}
-use Rattle.theory.proofs.Counting.{count}
 use Rattle.theory.proofs.MeshMeaning.{accepted, judged-accepts, mesh-fits}
 use Rattle.theory.proofs.Passed.{Named, done-passed, passed-done, passes-whole}
 use Rattle.theory.proofs.TestLaws.{and-intro, and-left, and-right}
@@ -22,11 +20,8 @@ use Rattle.theory.specs.Answer.{Rung, countOk, countRung, done, roomRung
 use Rattle.theory.specs.Calls.{readAnswer, writeAnswer}
 use Rattle.theory.specs.Judge.{letterAnswer, letterRungs, stringAnswer, stringDone}
 use Rattle.theory.specs.Mesh.{Accepted, meshAnswer, meshRungs, shapeOk}
-use Rattle.theory.specs.Tables.{vertices}
 use Rattle.theory.specs.Word.{Closes}
 use Rattle.theory.specs.declared.Answer.{Answer}
-use denote.Steps.{closes}
-use denote.Struct.Rest.{rest}
 
 module _ (s : List ℕ) (n m k : ℕ) where
   abbrev readRungs : List Rung
@@ -46,15 +41,19 @@ module _ (s : List ℕ) (n m k : ℕ) where
   pub read-done : readAnswer s n m k .number ≡ 0 → ReadDone
   unfolding readAnswer stringAnswer letterAnswer
   read-done e =
-      let named : Named readRungs = (omega arith, (omega arith, (omega arith, (omega arith, (omega arith, (omega arith, (omega arith, tt))))))) in
+      let named : Named readRungs =
+      (omega arith, (omega arith, (omega arith, (omega arith, (omega arith, (omega arith, (omega arith, tt))))))) in
       let p = done-passed readRungs (stringDone s) named e in
       let fits = passes-whole 2 (leb (3 * length s) n && (leb (3 * length s) m && leb (12 * length s) k)) (p .1 .0) in
       let rest = and-right (leb (3 * length s) n) (leb (3 * length s) m && leb (12 * length s) k) fits in
       record {
         count = passes-whole 1 (countOk (length s)) (p .0);
-        closes = answer-closes s (ap (λ (a : Answer). a .number) (passed-done (letterRungs s) (stringDone s) (p .1 .1)));
+        closes =
+            answer-closes s (ap (λ (a : Answer). a .number) (passed-done (letterRungs s) (stringDone s) (p .1 .1)));
         answer = passed-done readRungs (stringDone s) p;
-        vertices = leb-true (3 * length s) n (and-left (leb (3 * length s) n) (leb (3 * length s) m && leb (12 * length s) k) fits);
+        vertices =
+            leb-true (3 * length s) n (and-left (leb (3 * length s) n) (leb (3 * length s) m && leb (12 * length s) k)
+            fits);
         neighbours = leb-true (3 * length s) m (and-left (leb (3 * length s) m) (leb (12 * length s) k) rest);
         room = leb-true (12 * length s) k (and-right (leb (3 * length s) m) (leb (12 * length s) k) rest);
       }
@@ -63,10 +62,12 @@ module _ (s : List ℕ) (n m k : ℕ) where
       → readAnswer s n m k ≡ stringDone s
   unfolding readAnswer stringAnswer letterAnswer
   read-goes ok c p q r =
-      let fits = and-intro (leb (3 * length s) n) (leb (3 * length s) m && leb (12 * length s) k) (le-leb (3 * length s) n p)
-            (and-intro (leb (3 * length s) m) (leb (12 * length s) k) (le-leb (3 * length s) m q) (le-leb (12 * length s) k r)) in
+      let fits =
+      and-intro (leb (3 * length s) n) (leb (3 * length s) m && leb (12 * length s) k) (le-leb (3 * length s) n p)
+      (and-intro (leb (3 * length s) m) (leb (12 * length s) k) (le-leb (3 * length s) m q)
+      (le-leb (12 * length s) k r)) in
       sized-rest (countOk (length s)) (leb (3 * length s) n && (leb (3 * length s) m && leb (12 * length s) k))
-        (letterRungs s) (stringDone s) ok fits
+      (letterRungs s) (stringDone s) ok fits
       ∙ closes-answer s c
 
 module _ (vs os : List ℕ) (v g n m k : ℕ) where
@@ -86,7 +87,7 @@ module _ (vs os : List ℕ) (v g n m k : ℕ) where
   write-goes a p q r =
       let t = length vs / 3 in
       let fits = and-intro (leb t n) (leb t m && leb (12 * t) k) (le-leb t n p)
-            (and-intro (leb t m) (leb (12 * t) k) (le-leb t m q) (le-leb (12 * t) k r)) in
+      (and-intro (leb t m) (leb (12 * t) k) (le-leb t m q) (le-leb (12 * t) k r)) in
       sized-rest (shapeOk vs os) writeRoom (meshRungs vs os v g) (done t v) (a .shape) fits ∙ judged-accepts vs os v g a
 
   pub write-done : writeAnswer vs os v g n m k .number ≡ 0 → WriteDone

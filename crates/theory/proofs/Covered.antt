@@ -12,7 +12,6 @@ use Rattle.theory.proofs.WholeRun.{cornerOf, letterOf, steps, steps-len
 use Rattle.theory.specs.Lists.{mem}
 use Rattle.theory.specs.Mesh.{Sphere}
 use Rattle.theory.specs.Walk.{Step, marks, seen, walkFrom}
-use Rattle.theory.specs.declared.Letter.{Letter}
 
 pub record Covers (lab : ℕ → ℕ) (t v g : ℕ) (pre : List Step) : Type 0 where
   pub visited : (d : ℕ) → d < 3 * t → seen pre d ≡ true

@@ -87,7 +87,8 @@ module _ (os : List ℕ) where
         go : Dec (k ≡ i) → (b : Bool) → new i ≡ b → more ≤ 1
             → (1 ≤ more → (suc i ≤ k) × (k < suc i + n) × (new k ≡ true))
             → (count k (cond b (i ∷ facing os ks n (suc i)) (facing os ks n (suc i))) ≤ 1)
-            × (1 ≤ count k (cond b (i ∷ facing os ks n (suc i)) (facing os ks n (suc i))) → (i ≤ k) × (k < i + suc n) × (new k ≡ true))
+            × (1 ≤ count k (cond b (i ∷ facing os ks n (suc i)) (facing os ks n (suc i))) → (i ≤ k) × (k < i + suc n)
+            × (new k ≡ true))
         go (yes p) true q h f = (omega (arith, bit-on k i p, gone), λ l. (omega arith, omega arith, ap new p ∙ q))
           where
             gone : more ≡ 0
@@ -96,7 +97,10 @@ module _ (os : List ℕ) where
                 at : Dec (more ≡ 0) → more ≡ 0
                 at (yes z) = z
                 at (no z) = absurd (omega (arith, f (omega arith) .0))
-        go (no p) true q h f =
-            (omega (arith, bit-off k i p), λ l. let r = f (omega (arith, bit-off k i p)) in (omega (arith, r .0), omega (arith, r .1), r .2))
+        go (no p) true q h f = (
+          omega (arith, bit-off k i p),
+          λ l. let r = f (omega (arith, bit-off k i p)) in
+              (omega (arith, r .0), omega (arith, r .1), r .2),
+        )
         go (yes p) false q h f = (h, λ l. let r = f l in (omega (arith, r .0), omega (arith, r .1), r .2))
         go (no p) false q h f = (h, λ l. let r = f l in (omega (arith, r .0), omega (arith, r .1), r .2))

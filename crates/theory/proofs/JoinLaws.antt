@@ -17,7 +17,6 @@ use lib.Seq.{getD-set-other, getD-set-same, length-take-le}
 use Rattle.theory.proofs.Chain.{Each, each-append, each-split}
 use Rattle.theory.proofs.Counting.{bit, bit-off, bit-refl, count, count-append, count-parts, tris}
 use Rattle.theory.proofs.ListLaws.{length-front, snoc-view}
-use Rattle.theory.proofs.Marked.{o2}
 use Rattle.theory.proofs.Opens.{count-ends, cover, ends, length-opens, mates, opens}
 use Rattle.theory.proofs.WordLaws.{width-two}
 use Rattle.theory.specs.Corner.{opposite}

@@ -38,7 +38,8 @@ module _ (ok : ℕ → Bool) where
   below-from zero i k h l = absurd (omega arith)
   below-from (suc n) i k h l = go (ok i) refl l (ℕ-discrete i k) (below-from n (suc i) k)
     where
-      go : (b : Bool) → ok i ≡ b → k < cond b (leastFrom ok n (suc i)) i → Dec (i ≡ k) → (suc i ≤ k → k < leastFrom ok n (suc i) → ok k ≡ true) → ok k ≡ true
+      go : (b : Bool) → ok i ≡ b → k < cond b (leastFrom ok n (suc i)) i → Dec (i ≡ k)
+          → (suc i ≤ k → k < leastFrom ok n (suc i) → ok k ≡ true) → ok k ≡ true
       go true e l (yes q) ih = rw (← q) e
       go true e l (no q) ih = ih (omega arith) l
       go false e l d ih = absurd (omega arith)
@@ -48,7 +49,9 @@ module _ (ok : ℕ → Bool) where
   fails-from zero i l = absurd (omega arith)
   fails-from (suc n) i l = go (ok i) refl l (fails-from n (suc i))
     where
-      go : (b : Bool) → ok i ≡ b → cond b (leastFrom ok n (suc i)) i < i + suc n → (leastFrom ok n (suc i) < suc i + n → ok (leastFrom ok n (suc i)) ≡ false) → ok (cond b (leastFrom ok n (suc i)) i) ≡ false
+      go : (b : Bool) → ok i ≡ b → cond b (leastFrom ok n (suc i)) i < i + suc n
+          → (leastFrom ok n (suc i) < suc i + n → ok (leastFrom ok n (suc i)) ≡ false) → ok
+          (cond b (leastFrom ok n (suc i)) i) ≡ false
       go true e l ih = ih (omega arith)
       go false e l ih = e
 
@@ -143,7 +146,9 @@ pub least-same : (f g : ℕ → Bool) (n : ℕ) → ((k : ℕ) → k < n → f k
 least-same f g n same = go (decLt (least f n) n)
   where
     go : Dec (least f n < n) → least f n ≡ least g n
-    go (yes h) = least-at g n (least f n) h (λ k l. sym (same k (omega arith)) ∙ least-below f n k l) (sym (same (least f n) h) ∙ least-fails f n h)
+    go (yes h) =
+        least-at g n (least f n) h (λ k l. sym (same k (omega arith)) ∙ least-below f n k l)
+        (sym (same (least f n) h) ∙ least-fails f n h)
     go (no h) =
         let q : least f n ≡ n = omega (arith, least-le f n) in
         q ∙ sym (least-all g n (λ k l. sym (same k l) ∙ least-below f n k (omega arith)))

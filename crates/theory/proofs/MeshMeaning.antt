@@ -9,7 +9,6 @@ use mathlib.Core.Path.{_∙_, _≡_, ap, refl, sym}
 use Prim.Native.Nat.{_*_, _+_, _/_, _<_, ℕ}
 use native.Mathlib.Omega.{arith}
 use lib.Dec.{eqb, ltb}
-use lib.Ieee.{fits}
 use lib.ListN.{length}
 use borrow.Author.Tests.{eq-eqb, eqb-true, lt-ltb, ltb-true}
 use Rattle.theory.proofs.MeshLaws.{apart-of, apart-test, glued-test, paired-of, paired-test, shape-of, surface-of}
@@ -20,10 +19,9 @@ use Rattle.theory.proofs.RingLaws.{ring-between, ringed-from}
 use Rattle.theory.proofs.RingTests.{first-in, ringed-present}
 use Rattle.theory.proofs.SwingLaws.{Surface}
 use Rattle.theory.specs.Answer.{done, firstBroken, roomRung, whole}
-use Rattle.theory.specs.Corner.{inside, opposite, previous, triangle, vertex}
+use Rattle.theory.specs.Corner.{opposite, previous, triangle, vertex}
 use Rattle.theory.specs.Lists.{back}
 use Rattle.theory.specs.Mesh.{Accepted, apartAt, belowAt, firstCorner, gluedAt, meshAnswer, meshRungs, pairedAt, reachedAt, ringedAt, shapeOk}
-use denote.Ref.{name}
 
 module _ (vs os : List ℕ) (v g : ℕ) where
   pub passed-accepted : shapeOk vs os ≡ true → Passed (meshRungs vs os v g) → Accepted vs os v g
@@ -68,7 +66,13 @@ module _ (vs os : List ℕ) (v g : ℕ) where
       let t = length vs / 3 in
       let s = shape-of vs os (a .shape) in
       let low : (c : ℕ) → c < length vs → c < 3 * (length vs / 3) = λ c h. omega (arith, s .thirds) in
-      let pairs : (c : ℕ) → c < length vs → pairedAt os c ≡ true = λ c h. paired-test os c (record { inside = omega (arith, r .inside c (low c h), s .same); back = r .paired c; moves = r .moves c (low c h) }) in
+      let pairs : (c : ℕ) → c < length vs → pairedAt os c ≡ true =
+      λ c h. paired-test os c (record {
+        inside = omega
+            (arith, r .inside c (low c h), s .same);
+        back = r .paired c;
+        moves = r .moves c (low c h);
+      }) in
       let glue : (c : ℕ) → c < length vs → gluedAt vs os c ≡ true
       = λ c h. glued-test vs os c (r .glued c)
       (sym (r .glued (opposite os c) ∙ ap (λ (d : ℕ). vertex vs (previous d)) (r .paired c))) in
@@ -87,7 +91,8 @@ module _ (vs os : List ℕ) (v g : ℕ) where
                   each-passes 13 (ringedAt vs os) v (λ u h. rings u (r .present u h) surf),
                   (
                     each-passes 14 (reachedAt os t g) t
-                        (λ k h. reached-whole os t (triangle g) (r .paired) (r .inside) (omega (arith, s .same, s .thirds)) gate (r .reaches k h)),
+                        (λ k h. reached-whole os t (triangle g) (r .paired) (r .inside)
+                        (omega (arith, s .same, s .thirds)) gate (r .reaches k h)),
                     (
                       whole-passes 15 (eqb (t + 4) (2 * v)) (eq-eqb (t + 4) (2 * v) (r .euler)),
                       tt,
@@ -106,11 +111,20 @@ module _ (vs os : List ℕ) (v g : ℕ) where
           let c = counted u (p .0) vs (omega (arith, p .1)) (p .2) in
           let f = first-in vs u c in
           let s = shape-of vs os (a .shape) in
-          ringed-from surf u c (λ d h e. a .rings (firstCorner vs u) d (omega (arith, f .0, s .thirds)) (omega (arith, s .thirds)) (f .1 ∙ sym e))
+          ringed-from surf u c (λ d h e. a .rings (firstCorner vs u) d (omega (arith, f .0, s .thirds))
+          (omega (arith, s .thirds)) (f .1 ∙ sym e))
 
   abbrev named : Named (meshRungs vs os v g)
-  named =
-      (omega arith, (omega arith, (omega arith, (omega arith, (omega arith, (omega arith, (omega arith, (omega arith, tt))))))))
+  named = (
+    omega arith,
+    (
+      omega arith,
+      (
+        omega arith,
+        (omega arith, (omega arith, (omega arith, (omega arith, (omega arith, tt))))),
+      ),
+    ),
+  )
 
   -- ---- the checks 8 to 15
 
@@ -141,5 +155,5 @@ module _ (vs os : List ℕ) (v g : ℕ) where
   unfolding meshAnswer
   mesh-fits fits e =
       let p = done-passed (whole 1 (shapeOk vs os) ∷ roomRung fits ∷ meshRungs vs os v g) (done (length vs / 3) v)
-            (omega arith, (omega arith, named)) e in
+      (omega arith, (omega arith, named)) e in
       passes-whole 2 fits (p .1 .0)

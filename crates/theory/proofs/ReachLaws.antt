@@ -57,11 +57,15 @@ module _ (os : List ℕ) (t a : ℕ) where
               at (yes z) = z
               at (no z) =
                   let q = facing-count os ks t 0 k .1 (omega arith) .2 in
-                  absurd (not-both (mem k ks) e (not-is-true (mem k ks) (and-left (not (mem k ks)) (touches os ks k) q)))
+                  absurd (not-both (mem k ks) e
+                  (not-is-true (mem k ks) (and-left (not (mem k ks)) (touches os ks k) q)))
       go (inr e) r =
           let z = mem-false k ks e in
-          let f = facing-count os ks t 0 k in
-          (omega (arith, z, count-append k ks add, f .0), λ l. omega (arith, f .1 (omega (arith, z, count-append k ks add)) .1))
+          let f = facing-count os ks t 0 k in (
+            omega (arith, z, count-append k ks add, f .0),
+            λ l. omega
+                (arith, f .1 (omega (arith, z, count-append k ks add)) .1),
+          )
 
   reached-short : a < t → (n : ℕ) → length (reached os t n a) ≤ t
   reached-short h n = let p = pigeon (reached os t n a) (vals (λ i. i) t) below in omega (arith, length-vals (λ i. i) t)
@@ -91,7 +95,8 @@ module _ (os : List ℕ) (t a : ℕ) where
         where
           at : (new os ks k ≡ true) ⊎ (new os ks k ≡ false) → new os ks k ≡ false
           at (inl q) =
-              absurd (not-both (mem k []) (ap (mem k) (sym e) ∙ facing-in os ks t 0 k (omega arith) (omega arith) q) refl)
+              absurd (not-both (mem k []) (ap (mem k) (sym e) ∙ facing-in os ks t 0 k (omega arith) (omega arith) q)
+              refl)
           at (inr q) = q
 
       go : (add : List ℕ) → facing os ks t 0 ≡ add → (n < length ks) ⊎ Settled ks
@@ -128,7 +133,8 @@ module _ (os : List ℕ) (t a : ℕ) (paired : (c : ℕ) → opposite os (opposi
           → Reach (opposite os) a k
       go f (inl q) = f k q
       go f (inr q) =
-          behind f (touches-one os ks k (and-right (not (mem k ks)) (touches os ks k) (facing-count os ks t 0 k .1 (mem-true k (facing os ks t 0) q) .2)))
+          behind f (touches-one os ks k (and-right (not (mem k ks)) (touches os ks k)
+          (facing-count os ks t 0 k .1 (mem-true k (facing os ks t 0) q) .2)))
 
   module _ (low : (c : ℕ) → c < 3 * t → opposite os c < 3 * t) (corners : length os ≡ 3 * t) (h : a < t) where
     abbrev met : List ℕ
@@ -146,7 +152,8 @@ module _ (os : List ℕ) (t a : ℕ) (paired : (c : ℕ) → opposite os (opposi
     reached-whole (over c r) =
         go (decLt c (3 * t)) (true-or-false (mem (triangle (opposite os c)) met)) (reached-whole r)
       where
-        go : Dec (c < 3 * t) → (mem (triangle (opposite os c)) met ≡ true) ⊎ (mem (triangle (opposite os c)) met ≡ false)
+        go : Dec (c < 3 * t)
+            → (mem (triangle (opposite os c)) met ≡ true) ⊎ (mem (triangle (opposite os c)) met ≡ false)
             → mem (triangle c) met ≡ true → mem (triangle (opposite os c)) met ≡ true
         go d (inl q) e = q
         go (yes l) (inr q) e =

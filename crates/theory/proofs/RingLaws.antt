@@ -1,5 +1,5 @@
--- Rule 13 by counting (`ring-count`): the swings from the first corner of a vertex do not come back before as many swings
--- as it has corners, exactly where they meet all of them.
+-- Rule 13 by counting (`ring-count`): the swings from the first corner of a vertex do not come back before as many
+-- swings as it has corners, exactly where they meet all of them.
 --
 --   awayFor os c k    corner c is not met again in fewer than k swings
 --   ringed-from       the test, from swings of any number
@@ -88,7 +88,11 @@ module _ {vs os : List ℕ} (s : Surface vs os) (u : ℕ) where
           → (i : ℕ) × (i < count u vs) × (swings os i (firstCorner vs u) ≡ d)
       go (yes z) =
           let f = first-in vs u p in
-          absurd (omega (arith, swings-few (firstCorner vs u) (count u vs) d (f .0) (f .1) far hd ld (λ i l e. omega (arith, vals-meet (after (firstCorner vs u)) d (count u vs) i l (sym e)))))
+          absurd (omega (
+            arith,
+            swings-few (firstCorner vs u) (count u vs) d (f .0) (f .1) far hd ld
+                (λ i l e. omega (arith, vals-meet (after (firstCorner vs u)) d (count u vs) i l (sym e))),
+          ))
       go (no z) = vals-find (after (firstCorner vs u)) d (count u vs) (omega arith)
 
   -- the first corner is not met again in fewer swings than u has corners
@@ -101,7 +105,8 @@ module _ {vs os : List ℕ} (s : Surface vs os) (u : ℕ) where
   away-far t zero a b = absurd (omega arith)
   away-far t (suc j) a b =
       eqb-false (swings os (suc j) (firstCorner vs u)) (firstCorner vs u)
-      (not-is-true (eqb (swings os (suc j) (firstCorner vs u)) (firstCorner vs u)) (all-each still (count u vs - 1) t j (omega arith)))
+      (not-is-true (eqb (swings os (suc j) (firstCorner vs u)) (firstCorner vs u))
+      (all-each still (count u vs - 1) t j (omega arith)))
 
   -- .. if swinging meets all corners of u
   meets-away : ((d : ℕ) → d < length vs → vertex vs d ≡ u → (i : ℕ) × (swings os i (firstCorner vs u) ≡ d))
@@ -124,7 +129,8 @@ module _ {vs os : List ℕ} (s : Surface vs os) (u : ℕ) where
   pub ring-count : 1 ≤ count u vs → awayFor os (firstCorner vs u) (count u vs) ≡ ringedAt vs os u
   ring-count p =
       same-test (awayFor os (firstCorner vs u) (count u vs)) (ringedAt vs os u)
-      (λ t. ringed-true vs os u p (λ d h e. let r = away-meets p (away-far t) d h e in (r .0, omega (arith, r .1, count-short u vs, s .same), r .2)))
+      (λ t. ringed-true vs os u p (λ d h e. let r = away-meets p (away-far t) d h e in
+      (r .0, omega (arith, r .1, count-short u vs, s .same), r .2)))
       (λ t. meets-away (λ d h e. let r = ringed-meets vs os u t d h e in (r .0, r .2)))
 
   -- the test from the proposition: the number of swings need not be bounded
@@ -158,7 +164,10 @@ module _ {vs os : List ℕ} (s : Surface vs os) (u : ℕ) where
       go zero e i h q = absurd (omega arith)
       go (suc k) e zero h q = sym q ∙ swings-none os (firstCorner vs u)
       go (suc k) e (suc i) h q =
-          absurd (swings-apart s (firstCorner vs u) (count u vs) far i k (omega arith) (omega arith) (swing-inj s (swings os i (firstCorner vs u)) (swings os k (firstCorner vs u)) (sym (swings-more os i (firstCorner vs u)) ∙ q ∙ ap (λ (z : ℕ). swings os z (firstCorner vs u)) e ∙ swings-more os k (firstCorner vs u))))
+          absurd (swings-apart s (firstCorner vs u) (count u vs) far i k (omega arith) (omega arith) (swing-inj s
+          (swings os i (firstCorner vs u)) (swings os k (firstCorner vs u))
+          (sym (swings-more os i (firstCorner vs u)) ∙ q ∙ ap (λ (z : ℕ). swings os z (firstCorner vs u)) e
+          ∙ swings-more os k (firstCorner vs u))))
 
   -- from any corner of u to any other
   pub ring-between : ringedAt vs os u ≡ true → (a b : ℕ) → a < length vs → vertex vs a ≡ u → b < length vs
@@ -173,6 +182,7 @@ module _ {vs os : List ℕ} (s : Surface vs os) (u : ℕ) where
       let e : (rb .0 + (count u vs - z .0)) + z .0 ≡ rb .0 + count u vs = omega (arith, z .1) in (
         m,
         ap (swings os m) (sym (z .2 ∙ ra .2)) ∙ swings-add os m (z .0) (firstCorner vs u)
-            ∙ ap (λ (w : ℕ). swings os w (firstCorner vs u)) e ∙ sym (swings-add os (rb .0) (count u vs) (firstCorner vs u))
+            ∙ ap (λ (w : ℕ). swings os w (firstCorner vs u)) e ∙ sym
+            (swings-add os (rb .0) (count u vs) (firstCorner vs u))
             ∙ ap (swings os (rb .0)) (ring-closes t) ∙ rb .2,
       )

@@ -38,11 +38,15 @@ module _ (vs : List ℕ) (u : ℕ) where
     where
       go : Dec (least other (length vs) < length vs)
           → (least other (length vs) < length vs) × (vertex vs (least other (length vs)) ≡ u)
-      go (yes h) =
-          (h, eqb-true (vertex vs (least other (length vs))) u (not-is-false (eqb (vertex vs (least other (length vs))) u) (least-fails other (length vs) h)))
+      go (yes h) = (
+        h,
+        eqb-true (vertex vs (least other (length vs))) u
+            (not-is-false (eqb (vertex vs (least other (length vs))) u) (least-fails other (length vs) h)),
+      )
       go (no h) =
           let r = count-find u vs p in
-          absurd (eqb-false (vertex vs (r .0)) u (not-is-true (eqb (vertex vs (r .0)) u) (least-below other (length vs) (r .0) (omega (arith, r .1)))) (r .2))
+          absurd (eqb-false (vertex vs (r .0)) u (not-is-true (eqb (vertex vs (r .0)) u)
+          (least-below other (length vs) (r .0) (omega (arith, r .1)))) (r .2))
 
   pub first-none : count u vs ≡ 0 → length vs ≤ firstCorner vs u
   unfolding firstCorner
@@ -68,7 +72,8 @@ module _ (vs os : List ℕ) (u : ℕ) where
       go (yes e) =
           let r = f e in
           rw (eq-eqb (vertex vs d) u e)
-          (some-true (λ i. eqb (swings os i (firstCorner vs u)) d) (length os) (r .0) (r .1) (eq-eqb (swings os (r .0) (firstCorner vs u)) d (r .2)))
+          (some-true (λ i. eqb (swings os i (firstCorner vs u)) d) (length os) (r .0) (r .1)
+          (eq-eqb (swings os (r .0) (firstCorner vs u)) d (r .2)))
       go (no n) = rw (ne-eqb (vertex vs d) u n)
 
   met-one : (d : ℕ) → met d ≡ true → vertex vs d ≡ u → (i : ℕ) × (i < length os) × (swings os i (firstCorner vs u) ≡ d)
@@ -101,7 +106,8 @@ module _ (vs os : List ℕ) (u : ℕ) where
       → (i : ℕ) × (i < length os) × (swings os i (firstCorner vs u) ≡ d)
   unfolding ringedAt
   ringed-meets t d h e =
-      met-one d (all-each met (length vs) (and-right (ltb (firstCorner vs u) (length vs)) (all met (length vs)) t) d h) e
+      met-one d (all-each met (length vs) (and-right (ltb (firstCorner vs u) (length vs)) (all met (length vs)) t) d h)
+      e
 
   pub absent : count u vs ≡ 0 → ringedAt vs os u ≡ false
   absent e = go (ringedAt vs os u) refl

@@ -1,8 +1,10 @@
 -- Rule 13's ring part follows from the other rules (`sphere-rings`): the tables read back from the walk's string have
--- rings (T2), and the mesh is those tables but for its numbers (T3). Euler's count is used there, to count the walk's steps.
+-- rings (T2), and the mesh is those tables but for its numbers (T3). Euler's count is used there, to count the walk's
+-- steps.
 --
 --   swings-carried     a ring of the tables read back is carried to one of the mesh
---   sphere-accepted    so tables of a right shape that meet the rules of `Sphere` are accepted, and no ring need be followed
+--   sphere-accepted    so tables of a right shape that meet the rules of `Sphere` are accepted, and no ring need be
+--                      followed
 use mathlib.Core.Bool.{true}
 use mathlib.Core.List.{List}
 use mathlib.Core.Path.{_∙_, _≡_, ap, refl, sym}
@@ -70,8 +72,7 @@ module _ {lab opp : ℕ → ℕ} {t v g : ℕ} {steps : List Step} (r : Round la
       let n = r .sized in
       let lx = r .back-low c hc in
       let ly = r .back-low d hd in
-      let z = rings-of-word (r .word) (r .sound) (r .two) x y (omega arith) (omega arith) (back-vertex c d hc hd q) in
-      (
+      let z = rings-of-word (r .word) (r .sound) (r .two) x y (omega arith) (omega arith) (back-vertex c d hc hd q) in (
         z .0,
         ap (iter (swing opp) (z .0)) (sym (r .there c)) ∙ sym (swings-carried (z .0) x lx) ∙ ap f (z .1) ∙ r .there d,
       )

@@ -9,7 +9,7 @@ use lib.ListN.{drop, getD, length, length-append, take}
 use lib.Seq.{drop-append-seam, drop-drop}
 use Rattle.theory.proofs.ListLaws.{head-drop}
 use Rattle.theory.proofs.Rows.{Rows}
-use Rattle.theory.specs.Corner.{next, vertex}
+use Rattle.theory.specs.Corner.{vertex}
 use Rattle.theory.specs.Lists.{back, front, head, tail}
 use Rattle.theory.specs.Tables.{vertices}
 use Rattle.theory.specs.Word.{Word, news, size, wC, wE, wL, wR, wS, width}

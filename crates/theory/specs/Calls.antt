@@ -59,7 +59,8 @@ unfoldable pub writeAnswer : List ℕ → List ℕ → ℕ → ℕ → ℕ → �
 writeAnswer vs os v g n m k =
     meshAnswer vs os v g (leb (length vs / 3) n && (leb (length vs / 3) m && leb (12 * (length vs / 3)) k))
 
-pub record Writes (vs os : List ℕ) (v g : ℕ) (letters walk work : List ℕ) (a : Answer) (letters′ walk′ work′ : List ℕ) : Type 0 where
+pub record Writes (vs os : List ℕ) (v g : ℕ) (letters walk work : List ℕ) (a : Answer)
+    (letters′ walk′ work′ : List ℕ) : Type 0 where
   pub answer : a ≡ writeAnswer vs os v g (length letters) (length walk) (length work)
   pub string : letters′ ≡ filled a (lettersOf (meshWalk vs os g)) letters
   pub table : walk′ ≡ filled a (cornersOf (meshWalk vs os g)) walk

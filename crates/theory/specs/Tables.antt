@@ -1,7 +1,7 @@
 -- Tables from a string (document 01, "Tables from a string").
 --
--- Triangle k has tip corner 3k, left end 3k+1, right end 3k+2. A loop is a list us of vertices from the right end of the
--- current edge round to its left end; rs are the corners remembered on its edges, u0–u1 first.
+-- Triangle k has tip corner 3k, left end 3k+1, right end 3k+2. A loop is a list us of vertices from the right end of
+-- the current edge round to its left end; rs are the corners remembered on its edges, u0–u1 first.
 --
 --   vertices nv w us   the vertices of the triangles of w on the loop us, three each; nv is the next new vertex
 --   a ⇌ b              a join: the corners a and b face each other

@@ -1,7 +1,7 @@
 -- The walk and its letters (document 01, "Walk and letters").
 --
--- A mesh is lent as two functions of a corner: lab, its vertex, and opp, its opposite. The steps made so far are a list,
--- the latest first.
+-- A mesh is lent as two functions of a corner: lab, its vertex, and opp, its opposite. The steps made so far are a
+-- list, the latest first.
 --
 --   a ＠ c              a step: the letter a, found at corner c
 --   seen steps d       the triangle of corner d is visited
@@ -51,7 +51,8 @@ module _ (lab opp : ℕ → ℕ) (g : ℕ) where
   -- its own triangle is visited, so left and right are looked up with it
   unfoldable pub letterAt : List Step → ℕ → Letter
   letterAt steps c =
-      cond (mem (lab c) (marks lab g steps)) (bySides (seen ((E ＠ c) ∷ steps) (left opp c)) (seen ((E ＠ c) ∷ steps) (right opp c))) C
+      cond (mem (lab c) (marks lab g steps)) (bySides (seen ((E ＠ c) ∷ steps) (left opp c))
+      (seen ((E ＠ c) ∷ steps) (right opp c))) C
 
   unfoldable pub walk : ℕ → List Step → List ℕ → ℕ → List Step
   walk zero steps st c = []

@@ -128,7 +128,7 @@ module _
             stands = record {
               mesh = s .mesh;
               here = right-met;
-            made = (s .here, s .made);
+              made = (s .here, s .made);
               visited = visited-past t ((S ＠ c) ∷ steps) (entered work c) (seen-now S) (p - 1) l (omega arith);
               marked = marked-past vs t v g steps (entered work c) marked-now (p - 1) l (inr (omega (arith, spare)));
               waiting =

@@ -11,7 +11,6 @@ use Rattle.tables.proofs.Building.{built}
 use Rattle.theory.proofs.Closing.{answer-closes}
 use Rattle.theory.specs.Tables.{vertices}
 use Rattle.theory.specs.declared.Answer.{Answer}
-use denote.Steps.{closes}
 use Rattle.conn.proofs.read_letters.Statement.{statement}
 use Rattle.conn.proofs.read_letters.Tie as tie
 

@@ -6,7 +6,6 @@ use borrow.Author.Tests.{not-false, not-true}
 use Rattle.conn.proofs.Outcomes.{read-room, reads-kept, reads-rest, refusal}
 use Rattle.theory.proofs.AnswerLaws.{count-few}
 use Rattle.theory.proofs.CallLaws.{stopped-first, stopped-second}
-use types.Run.{first}
 use Rattle.conn.proofs.read_string.Statement.{statement}
 use Rattle.conn.proofs.read_string.Tie as tie
 

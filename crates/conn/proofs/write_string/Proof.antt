@@ -4,7 +4,6 @@ use borrow.Author.Needs.{needs}
 use borrow.Author.Tests.{not-false, not-true}
 use Rattle.conn.proofs.Outcomes.{refusal, write-room, writes-kept, writes-rest}
 use Rattle.theory.proofs.CallLaws.{stopped-first, stopped-second}
-use types.Run.{first}
 use Rattle.conn.proofs.write_string.Statement.{statement}
 use Rattle.conn.proofs.write_string.Tie as tie
 

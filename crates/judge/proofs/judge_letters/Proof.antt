@@ -1,6 +1,5 @@
 -- `judge_letters` meets its contract: the checks 3 to 5 in their order, then those of the widths.
 use mathlib.Core.Path.{_∙_}
-use lib.Ieee.{fits}
 use borrow.Author.Needs.{needs}
 use Rattle.theory.proofs.JudgeLaws.{breaks-five, breaks-four, breaks-three, none-breaks}
 use Rattle.theory.proofs.Opens.{ends}

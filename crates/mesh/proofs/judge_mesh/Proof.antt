@@ -1,5 +1,4 @@
 -- `judge_mesh` meets its contract, check by check: 8 to 12, then the others.
-use Prim.Native.Nat.{one}
 use native.Mathlib.Omega.{arith}
 use borrow.Author.Needs.{needs}
 use Rattle.mesh.proofs.Judging.{doubled-stops, gate-stops, later-left, over-stops, pairing-found, surface-found, unglued-stops, unpaired-stops}

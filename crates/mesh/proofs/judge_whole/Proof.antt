@@ -1,5 +1,4 @@
 -- `judge_whole` meets its contract, check by check: 13, 14, 15.
-use Prim.Native.Nat.{one}
 use native.Mathlib.Omega.{arith}
 use borrow.Author.Needs.{needs}
 use Rattle.mesh.proofs.Judging.{all-passed, euler-stops, ring-stops, unreached-stops}

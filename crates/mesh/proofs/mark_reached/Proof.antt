@@ -7,7 +7,6 @@ use borrow.Author.Needs.{needs}
 use Rattle.mesh.proofs.SearchTables.{Searching, again, begun, fewer, finished, low, waiting}
 use Rattle.mesh.proofs.Touching.{owed}
 use Rattle.mesh.specs.Search.{searchIn}
-use types.Run.{first}
 use Rattle.mesh.proofs.mark_reached.Statement.{statement}
 use Rattle.mesh.proofs.mark_reached.Tie as tie
 

@@ -1,7 +1,6 @@
 -- `paired_at` meets its contract, test by test.
 use borrow.Author.Needs.{needs}
 use Rattle.mesh.proofs.Branches.{pairs-in, pairs-off, pairs-out}
-use types.Run.{first}
 use Rattle.mesh.proofs.paired_at.Statement.{statement}
 use Rattle.mesh.proofs.paired_at.Tie as tie
 

@@ -3,7 +3,6 @@ use native.Mathlib.Omega.{arith}
 use borrow.Author.Needs.{needs}
 use Rattle.mesh.proofs.SearchTables.{neighbour, spread-same}
 use Rattle.theory.proofs.ListLaws.{third}
-use types.Run.{first}
 use Rattle.mesh.proofs.spread_at.Statement.{statement}
 use Rattle.mesh.proofs.spread_at.Tie as tie
 

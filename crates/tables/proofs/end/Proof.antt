@@ -1,5 +1,4 @@
 -- `end` meets its contract: two pushes, then the unwinding.
-use Prim.Native.Nat.{one}
 use borrow.Author.Needs.{needs}
 use Rattle.tables.proofs.Stepping.{stands-end}
 use Rattle.tables.proofs.end.Statement.{statement}

@@ -1,7 +1,6 @@
 -- `join` meets its contract: two stores are a join.
 use borrow.Author.Needs.{needs}
 use Rattle.tables.proofs.Turning.{joined-in}
-use types.Run.{first}
 use Rattle.tables.proofs.join.Statement.{statement}
 use Rattle.tables.proofs.join.Tie as tie
 

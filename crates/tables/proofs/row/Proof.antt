@@ -4,7 +4,6 @@ use Rattle.tables.proofs.Filling.{rowed}
 use Rattle.tables.specs.Fill.{tip}
 use Rattle.theory.proofs.ListLaws.{third}
 use Rattle.theory.specs.Corner.{left, right}
-use types.Run.{first}
 use Rattle.tables.proofs.row.Statement.{statement}
 use Rattle.tables.proofs.row.Tie as tie
 
