@@ -13,12 +13,14 @@ ghost use lib.Dec.{leb};
 ghost use Rattle.theory.specs.Calls.{Judges, Reads, Checks, Writes};
 ghost use Rattle.conn.specs.Inner.{ReadRoom, ReadLetters, WriteRoom, WriteLetters};
 use judge::judge_letters;
+use judge::judge_words;
 use lent::clear;
 use lent::count_ok;
 use lent::refuse;
 use mesh::shape_ok;
 use sweep::judge;
 use tables::build;
+use tables::fold;
 use theory::Answer;
 use walk::spell_out;
 
@@ -70,13 +72,18 @@ fn read_letters(letters: &[u8], vs: &mut [u32], os: &mut [u32], work: &mut [u32]
     requires { ⌜ ReadRoom (now letters) (now vs) (now os) (now work) ⌝ }
     ensures { λ r. ⌜ ReadLetters (now (letters .entry)) (now (vs .entry)) (now (os .entry)) (now (work .entry)) r (now (vs .exit)) (now (os .exit)) (now (work .exit)) ⌝ }
 {
-    let a = judge_letters(letters, work);
+    let parsed = judge_words(letters);
+    if parsed.number != 0 {
+        clear(work);
+        return parsed;
+    }
+    let a = fold(letters, work);
     if a.number != 0 {
         clear(work);
         return a;
     }
     let n = 3 * letters.len();
-    build(letters, &mut vs[..n], &mut os[..n], work);
+    build(letters, work, &mut vs[..n], &mut os[..n]);
     clear(work);
     a
 }

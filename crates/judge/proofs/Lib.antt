@@ -3,3 +3,4 @@ pub mod WidthLaws
 pub mod Stores
 pub mod Forward
 pub mod Passes
+pub mod Parses

@@ -11,6 +11,7 @@ ghost use Rattle.theory.specs.Answer.{firstBroken};
 ghost use Rattle.theory.specs.Letter.{byte, letter, isLetter};
 ghost use Rattle.theory.specs.Judge.{wanted, wordsEnd, letterRungs, stringDone, letterAnswer};
 ghost use Rattle.theory.specs.declared.Letter.the-variants as Letter;
+ghost use Rattle.judge.specs.Parsed.{Parsed};
 ghost use Rattle.judge.specs.Widths.{widthsBefore, total, Wide, Ready, Stepped};
 use theory::Answer;
 use theory::Letter;
@@ -147,10 +148,10 @@ fn judge_widths(s: &[u8], work: &mut [u32]) -> Answer
     lent::accept(t as u32, (t / 2 + 2) as u32)
 }
 
-// Numbers 3 to 7. Every length of work from that of s on will do; what is left in it is of no meaning.
-pub fn judge_letters(s: &[u8], work: &mut [u32]) -> Answer
-    requires { ⌜ (length (now s) ≤ 65536) × (length (now s) ≤ length (now work)) ⌝ }
-    ensures { λ r. ⌜ r ≡ letterAnswer (now (s .entry)) ⌝ }
+// Numbers 3 to 5, or number 0 for exactly one word.
+pub fn judge_words(s: &[u8]) -> Answer
+    requires { ⌜ length (now s) ≤ 65536 ⌝ }
+    ensures { λ r. ⌜ Parsed (now (s .entry)) r ⌝ }
 {
     let t = s.len();
     let foreign = first_foreign(s);
@@ -163,6 +164,18 @@ pub fn judge_letters(s: &[u8], work: &mut [u32]) -> Answer
     }
     if end < t {
         return lent::refuse(5, end as u32);
+    }
+    lent::accept(0, 0)
+}
+
+// Numbers 3 to 7. Every length of work from that of s on will do; what is left in it is of no meaning.
+pub fn judge_letters(s: &[u8], work: &mut [u32]) -> Answer
+    requires { ⌜ (length (now s) ≤ 65536) × (length (now s) ≤ length (now work)) ⌝ }
+    ensures { λ r. ⌜ r ≡ letterAnswer (now (s .entry)) ⌝ }
+{
+    let parsed = judge_words(s);
+    if parsed.number != 0 {
+        return parsed;
     }
     judge_widths(s, work)
 }

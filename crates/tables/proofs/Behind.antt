@@ -10,7 +10,6 @@ use native.Mathlib.Omega.{arith}
 use lib.ListN.{drop, getD, length, length-append, length-drop, take}
 use lib.Seq.{length-take-le}
 use Rattle.tables.proofs.Filled.{Ends, after-mix, before-mix, ends-link, mix, mix-at}
-use Rattle.tables.proofs.Joining.{noted}
 use Rattle.tables.proofs.Noted.{Noted}
 use Rattle.tables.specs.Fill.{afterFacing, tip}
 use Rattle.theory.proofs.Chain.{Each}

@@ -7,11 +7,8 @@ use native.Mathlib.Omega.{arith}
 use lib.ListN.{drop, length, take}
 use Rattle.tables.proofs.Behind.{OnLoop, behind-C, behind-L, behind-R, behind-left, behind-right, tip-is-E, tip-is-L, tip-is-R, tip-is-S}
 use Rattle.tables.proofs.Filled.{Ends, ends-link, mix, mix-all, mix-none, step-mix}
-use Rattle.tables.proofs.Joining.{noted}
-use Rattle.tables.proofs.Neighbours.{zip-noted}
-use Rattle.tables.proofs.Noted.{length-noted, noted-holds}
+use Rattle.tables.proofs.Noted.{Noted}
 use Rattle.tables.specs.Fill.{fillRun, fillStep, fresh, leftEnd, rightEnd, row, tip}
-use Rattle.tables.specs.Zip.{zipV}
 use Rattle.theory.proofs.CornerLaws.{next-right, next-tip, previous-right, previous-tip}
 use Rattle.theory.proofs.HoldsWord.{holds-C}
 use Rattle.theory.proofs.Opens.{ends}
@@ -74,16 +71,14 @@ module _ (vt vs₀ ot : List ℕ) (same : length vs₀ ≡ length vt) where
       (omega arith)
 
 -- the first triangle is a C on the gate's edge: its ends are 0 and 1, and the rest of the word stands on 1, 0, 2
-fill-C : (w : Word) → Sound (wC w) → width (wC w) ≡ 2 → (vs : List ℕ) → length vs ≡ 3 * size (wC w)
-    → fillRun (spell (wC w)) 0 2 (tableO (wC w)) (noted 0 (wC w) vs) ≡ tableV (wC w)
-unfolding spell fillRun fresh letter width size links tip leftEnd rightEnd noted back
-fill-C w sound two vs n =
+fill-C : (w : Word) → Sound (wC w) → width (wC w) ≡ 2 → (vs₀ : List ℕ) → length vs₀ ≡ 3 * size (wC w)
+    → Noted vs₀ 0 (wC w) → fillRun (spell (wC w)) 0 2 (tableO (wC w)) vs₀ ≡ tableV (wC w)
+unfolding spell fillRun fresh letter width size links tip leftEnd rightEnd back
+fill-C w sound two vs₀ n noted =
     let vt = tableV (wC w) in
     let ot = tableO (wC w) in
-    let vs₀ = noted 0 (wC w) vs in
     let us : List ℕ = 1 ∷ (0 ∷ []) in
     let lv = length-v (wC w) in
-    let ln = length-noted 0 (wC w) vs in
     let same : length vs₀ ≡ length vt = omega arith in
     let row = rows (wC w) in
     let ends = first-ends (wC w) in
@@ -102,7 +97,7 @@ fill-C w sound two vs n =
           edges-snoc (vertex vt) us (0 ∷ []) 2 2 edges (rw (previous-right 0) (ends .0))
           (rw (next-right 0) (row .0 .0));
       bottom = ends-link vt vs₀ ot same 1 1 (omega arith) (omega arith) (p .0) (A .0 .0);
-      noted = noted-holds 0 (wC w) vs (omega arith);
+      noted = noted;
       within = omega arith;
     } in
     ap (λ (l : List ℕ). fillRun (spell w) 1 3 ot (fillStep C 0 2 ot l)) (sym (mix-none vt vs₀ ot same))
@@ -111,14 +106,13 @@ fill-C w sound two vs n =
     ∙ fill-run vt vs₀ ot same w 1 3 (1 ∷ (0 ∷ (2 ∷ []))) (0 ∷ (2 ∷ [])) start []
     ∙ mix-all vt vs₀ ot same (3 * (1 + size w)) (omega arith)
 
-pub fill-table : (w : Word) → Sound w → width w ≡ 2 → (os vs : List ℕ) → length vs ≡ 3 * size w
-    → fillRun (spell w) 0 2 (tableO w) (zipV (spell w) os vs) ≡ tableV w
-fill-table w sound two os vs n =
-    ap (fillRun (spell w) 0 2 (tableO w)) (zip-noted w sound two os vs) ∙ go (root w sound two)
+pub fill-table : (w : Word) → Sound w → width w ≡ 2 → (vs : List ℕ) → length vs ≡ 3 * size w → Noted vs 0 w
+    → fillRun (spell w) 0 2 (tableO w) vs ≡ tableV w
+fill-table w sound two vs n noted = go (root w sound two)
   where
-    go : (x : Word) × (w ≡ wC x) → fillRun (spell w) 0 2 (tableO w) (noted 0 w vs) ≡ tableV w
+    go : (x : Word) × (w ≡ wC x) → fillRun (spell w) 0 2 (tableO w) vs ≡ tableV w
     go (x, e) =
         subst
         (λ (y : Word).
-        Sound y → width y ≡ 2 → length vs ≡ 3 * size y → fillRun (spell y) 0 2 (tableO y) (noted 0 y vs) ≡ tableV y)
-        (sym e) (λ a b d. fill-C x a b vs d) sound two n
+        Sound y → width y ≡ 2 → length vs ≡ 3 * size y → Noted vs 0 y → fillRun (spell y) 0 2 (tableO y) vs ≡ tableV y)
+        (sym e) (λ a b d i. fill-C x a b vs d i) sound two n noted

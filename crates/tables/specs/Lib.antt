@@ -1,4 +1,3 @@
+pub mod Fold
 pub mod Built
-pub mod Zip
-pub mod Standing
 pub mod Fill

@@ -1,189 +1,185 @@
-// Tables from the letters of a string that closes (document 01, "Tables from a string"), by two forward passes: the
-// neighbours with two stacks in the work space, then the vertices from the neighbours.
+// Tables from the letters of a string (document 01, "Tables from a string"): a pass from its end judges the widths and
+// joins the corners of its triangles in the work space; where the string closes, a pass from its start makes the vertices.
 //
-// A side that waits is kept as 3 * side + 0, 1, 2 for its triangle's letter L, C, S. Each pass does what its definition
-// says for every string; that they make the tables of a string that closes is a law of the definitions.
+// The open sides of a word are a list that is linked through their own entries of table O. Each letter does what its
+// definition says; that this makes the tables of a string that closes is a law of the definitions.
 ghost use mathlib.Core.Path.{_≡_};
+ghost use mathlib.Core.Bool.{_&&_};
 ghost use Prim.Native.Nat.{ℕ, _+_, _-_, _*_, _<_, _≤_};
-ghost use lib.ListN.{length, set};
-ghost use Rattle.theory.specs.Letter.{letter};
+ghost use lib.Dec.{eqb};
+ghost use lib.ListN.{length, set, take};
+ghost use Rattle.theory.specs.Letter.{byte, letter};
 ghost use Rattle.theory.specs.declared.Letter.the-variants as Is;
 ghost use Rattle.theory.specs.Tables.{joinAt};
-ghost use Rattle.tables.specs.Built.{Buildable, Built};
-ghost use Rattle.tables.specs.Zip.{zipStep, ZipDone};
-ghost use Rattle.tables.specs.Standing.{zipIn, unwindIn, Turned, Room, Stands};
+ghost use Rattle.tables.specs.Built.{Buildable, Built, Spread};
+ghost use Rattle.tables.specs.Fold.{Foldable, Folded, Room, foldC, foldE, foldIn, foldL, foldR, foldS, foldStep, pushed};
 ghost use Rattle.tables.specs.Fill.{afterFacing, beforeFacing, tip, leftEnd, rightEnd, fillStep, fresh, fillRun};
 use corner::next_of;
 use corner::previous_of;
+use lent::accept;
 use lent::at;
 use lent::letter_of;
-use lent::push;
 use lent::put;
-use lent::top;
-use lent::under;
+use lent::refuse;
+use theory::Answer;
 use theory::Letter;
 
-// Where the two stacks stand.
-pub struct Tops {
-    pub waiting: usize,
-    pub sides: usize,
+// A word: the ends of its open sides, and where the stack of the words behind it stands.
+pub struct Ends {
+    pub first: u32,
+    pub last: u32,
+    pub top: usize,
 }
 
-// Where the open sides stand after a waiting one is met, and whether the next one is met too.
-pub struct Met {
-    pub sides: usize,
-    pub more: bool,
-}
-
-fn join(os: &mut [u32], a: u32, b: u32)
-    ensures { λ _. ⌜ now (os .exit) ≡ joinAt a b (now (os .entry)) ⌝ }
+fn join(work: &mut [u32], a: u32, b: u32)
+    requires { ⌜ (a < length (now work)) × (b < length (now work)) ⌝ }
+    ensures { λ _. ⌜ now (work .exit) ≡ joinAt a b (now (work .entry)) ⌝ }
 {
-    put(os, a as usize, b);
-    put(os, b as usize, a);
+    work[a as usize] = b;
+    work[b as usize] = a;
 }
 
-// The waiting side x is met: that of an L stays open, that of a C is joined to the last open one, that of an S to the
-// next tip, and the last open side of its right branch is recorded.
-fn meet(t: usize, k: u32, x: u32, p: usize, work: &mut [u32], os: &mut [u32], vs: &mut [u32]) -> Met
-    requires { ⌜ (k ≤ 65536) × (t < p) × (p ≤ length (now work)) ⌝ }
-    ensures { λ r. ⌜ Turned t k x p (now (work .entry)) (now (os .entry)) (now (vs .entry)) (r .sides) (r .more) (now (work .exit)) (now (os .exit)) (now (vs .exit)) ⌝ }
+fn fold_c(t: usize, k: u32, first: u32, last: u32, top: usize, work: &mut [u32]) -> Ends
+    requires { ⌜ Room t k first last top (now work) ⌝ }
+    ensures { λ r. ⌜ foldIn (now (work .exit)) (r .first) (r .last) (r .top) ≡ foldC k (foldIn (now (work .entry)) first last top) ⌝ }
 {
-    if x % 3 == 0 {
-        let open = push(work, p, x / 3);
-        return Met {
-            sides: open,
-            more: true,
-        };
-    }
-    let b = top(work, p);
-    if x % 3 == 1 {
-        join(os, b, x / 3);
-        let open = under(work, p);
-        return Met {
-            sides: open,
-            more: true,
-        };
-    }
-    join(os, x / 3, 3 * k);
-    put(vs, 3 * (x / 9) as usize, b);
-    Met {
-        sides: p,
-        more: false,
+    let inner = work[last as usize];
+    join(work, last, 3 * k + 2);
+    join(work, 3 * k + 1, 3 * (k + 1));
+    Ends {
+        first,
+        last: inner,
+        top,
     }
 }
 
-fn unwind(
-    t: usize,
-    k: u32,
-    q: usize,
-    p: usize,
-    work: &mut [u32],
-    os: &mut [u32],
-    vs: &mut [u32],
-) -> Tops
-    requires { ⌜ (k ≤ 65536) × (q ≤ t) × (t + (t - q) ≤ p) × (p ≤ length (now work)) ⌝ }
-    ensures { λ r. ⌜ Stands t (r .waiting) (r .sides) (now (work .exit)) (now (os .exit)) (now (vs .exit)) (unwindIn k t (now (work .entry)) (now (os .entry)) (now (vs .entry)) q p) ⌝ }
+fn fold_l(t: usize, k: u32, first: u32, last: u32, top: usize, work: &mut [u32]) -> Ends
+    requires { ⌜ Room t k first last top (now work) ⌝ }
+    ensures { λ r. ⌜ foldIn (now (work .exit)) (r .first) (r .last) (r .top) ≡ foldL k (foldIn (now (work .entry)) first last top) ⌝ }
 {
-    let mut q = q;
-    let mut p = p;
-    while q < t {
-        let x = work[q];
-        let met = meet(t, k, x, p, work, os, vs);
-        q += 1;
-        p = met.sides;
-        if !met.more {
-            return Tops {
-                waiting: q,
-                sides: p,
-            };
-        }
-    }
-    Tops {
-        waiting: q,
-        sides: p,
+    join(work, 3 * k + 1, 3 * (k + 1));
+    put(work, 3 * k as usize + 2, last);
+    Ends {
+        first,
+        last: 3 * k + 2,
+        top,
     }
 }
 
-// Continue at right; the left side waits as x. For C, L and S.
-fn wait(x: u32, k: u32, q: usize, work: &mut [u32], os: &mut [u32]) -> usize
-    requires { ⌜ (k < 65536) × (0 < q) × (q ≤ length (now work)) ⌝ }
-    ensures { λ r. ⌜ (r ≡ q - 1) × (now (work .exit) ≡ set (now (work .entry)) (q - 1) x) × (now (os .exit) ≡ joinAt (3 * k + 1) (3 * (k + 1)) (now (os .entry))) ⌝ }
+fn fold_r(t: usize, k: u32, first: u32, last: u32, top: usize, work: &mut [u32]) -> Ends
+    requires { ⌜ Room t k first last top (now work) ⌝ }
+    ensures { λ r. ⌜ foldIn (now (work .exit)) (r .first) (r .last) (r .top) ≡ foldR k (foldIn (now (work .entry)) first last top) ⌝ }
 {
-    join(os, 3 * k + 1, 3 * (k + 1));
-    push(work, q, x)
+    put(work, first as usize, 3 * k + 1);
+    join(work, 3 * k + 2, 3 * (k + 1));
+    Ends {
+        first: 3 * k + 1,
+        last,
+        top,
+    }
 }
 
-// Two sides are left open, the right one below the left one, and the waiting ones are met.
-fn end(
-    t: usize,
-    k: u32,
-    q: usize,
-    p: usize,
-    work: &mut [u32],
-    os: &mut [u32],
-    vs: &mut [u32],
-) -> Tops
-    requires { ⌜ Room t k q p (now work) ⌝ }
-    ensures { λ r. ⌜ Stands t (r .waiting) (r .sides) (now (work .exit)) (now (os .exit)) (now (vs .exit)) (zipStep Is.E k (zipIn t (now (work .entry)) (now (os .entry)) (now (vs .entry)) q p)) ⌝ }
+// The word behind goes on the stack.
+fn push_word(k: u32, first: u32, last: u32, p: usize, work: &mut [u32])
+    requires { ⌜ (k < 65536) × (p + 3 ≤ length (now work)) ⌝ }
+    ensures { λ _. ⌜ now (work .exit) ≡ pushed k p (foldIn (now (work .entry)) first last (p + 3)) ⌝ }
 {
-    let one = push(work, p, 3 * k + 1);
-    let two = push(work, one, 3 * k + 2);
-    unwind(t, k + 1, q, two, work, os, vs)
+    work[p] = 3 * (k + 1);
+    work[p + 1] = first;
+    work[p + 2] = last;
+}
+
+fn fold_e(t: usize, k: u32, first: u32, last: u32, top: usize, work: &mut [u32]) -> Ends
+    requires { ⌜ Room t k first last top (now work) ⌝ }
+    ensures { λ r. ⌜ foldIn (now (work .exit)) (r .first) (r .last) (r .top) ≡ foldE k (foldIn (now (work .entry)) first last top) ⌝ }
+{
+    push_word(k, first, last, top - 3, work);
+    put(work, 3 * k as usize + 2, 3 * k + 1);
+    Ends {
+        first: 3 * k + 1,
+        last: 3 * k + 2,
+        top: top - 3,
+    }
+}
+
+// The left branch of an S, whose tip and first open side are lent, is joined and hung behind the right branch.
+fn splice(t: usize, k: u32, tip: u32, f: u32, last: u32, work: &mut [u32])
+    requires { ⌜ (k < 65536) × (t ≤ 65536) ⌝ }
+    ensures { λ _. ⌜ now (work .exit) ≡ joinAt (3 * k + 1) (3 * (k + 1)) (joinAt (3 * k + 2) tip (set (set (now (work .entry)) (3 * t + k) last) f last)) ⌝ }
+{
+    put(work, 3 * t + k as usize, last);
+    put(work, f as usize, last);
+    put(work, 3 * k as usize + 2, tip);
+    put(work, tip as usize, 3 * k + 2);
+    put(work, 3 * k as usize + 1, 3 * (k + 1));
+    put(work, 3 * k as usize + 3, 3 * k + 1);
+}
+
+fn fold_s(t: usize, k: u32, first: u32, last: u32, top: usize, work: &mut [u32]) -> Ends
+    requires { ⌜ Room t k first last top (now work) ⌝ }
+    ensures { λ r. ⌜ foldIn (now (work .exit)) (r .first) (r .last) (r .top) ≡ foldS t k (foldIn (now (work .entry)) first last top) ⌝ }
+{
+    let tip = at(work, top);
+    let f = at(work, top + 1);
+    let l = at(work, top + 2);
+    splice(t, k, tip, f, last, work);
+    Ends {
+        first,
+        last: l,
+        top: top + 3,
+    }
 }
 
 // The letter b of triangle k.
-fn step(
-    b: u8,
-    t: usize,
-    k: u32,
-    q: usize,
-    p: usize,
-    work: &mut [u32],
-    os: &mut [u32],
-    vs: &mut [u32],
-) -> Tops
-    requires { ⌜ Room t k q p (now work) ⌝ }
-    ensures { λ r. ⌜ Stands t (r .waiting) (r .sides) (now (work .exit)) (now (os .exit)) (now (vs .exit)) (zipStep (letter b) k (zipIn t (now (work .entry)) (now (os .entry)) (now (vs .entry)) q p)) ⌝ }
+fn step(b: u8, t: usize, k: u32, first: u32, last: u32, top: usize, work: &mut [u32]) -> Ends
+    requires { ⌜ Room t k first last top (now work) ⌝ }
+    ensures { λ r. ⌜ foldIn (now (work .exit)) (r .first) (r .last) (r .top) ≡ foldStep (letter b) t k (foldIn (now (work .entry)) first last top) ⌝ }
 {
     match letter_of(b) {
-        Letter::C => {
-            let waiting = wait(3 * (3 * k + 2) + 1, k, q, work, os);
-            Tops { waiting, sides: p }
-        }
-        Letter::L => {
-            let waiting = wait(3 * (3 * k + 2), k, q, work, os);
-            Tops { waiting, sides: p }
-        }
-        Letter::E => end(t, k, q, p, work, os, vs),
-        Letter::R => {
-            join(os, 3 * k + 2, 3 * (k + 1));
-            let sides = push(work, p, 3 * k + 1);
-            Tops { waiting: q, sides }
-        }
-        Letter::S => {
-            let waiting = wait(3 * (3 * k + 2) + 2, k, q, work, os);
-            Tops { waiting, sides: p }
-        }
+        Letter::C => fold_c(t, k, first, last, top, work),
+        Letter::L => fold_l(t, k, first, last, top, work),
+        Letter::E => fold_e(t, k, first, last, top, work),
+        Letter::R => fold_r(t, k, first, last, top, work),
+        Letter::S => fold_s(t, k, first, last, top, work),
     }
 }
 
-// The neighbours of all triangles.
-fn zip(s: &[u8], vs: &mut [u32], os: &mut [u32], work: &mut [u32])
-    requires { ⌜ (length (now s) ≤ 65536) × (12 * length (now s) ≤ length (now work)) ⌝ }
-    ensures { λ _. ⌜ ZipDone (now (s .entry)) (now (os .entry)) (now (vs .entry)) (now (os .exit)) (now (vs .exit)) ⌝ }
+// The byte b is a C, and the word behind it has one open side.
+fn pinched(b: u8, first: u32, last: u32) -> bool
+    ensures { λ r. ⌜ r ≡ (eqb b (byte Is.C) && eqb first last) ⌝ }
+{
+    if b == 67 {
+        return first == last;
+    }
+    false
+}
+
+// Numbers 6 and 7, and the neighbours of all triangles where the string closes.
+pub fn fold(s: &[u8], work: &mut [u32]) -> Answer
+    requires { ⌜ Foldable (now s) (now work) ⌝ }
+    ensures { λ r. ⌜ Folded (now (s .entry)) r (now (work .exit)) ⌝ }
 {
     let t = s.len();
-    let mut q = t;
-    let mut p = work.len();
-    let mut k = 0;
-    while k < t {
-        let tops = step(s[k], t, k as u32, q, p, work, os, vs);
-        q = tops.waiting;
-        p = tops.sides;
-        k += 1;
+    let mut first = 0;
+    let mut last = 0;
+    let mut top = work.len();
+    let mut i = t;
+    while 0 < i {
+        let b = s[i - 1];
+        if pinched(b, first, last) {
+            return refuse(6, (i - 1) as u32);
+        }
+        let ends = step(b, t, (i - 1) as u32, first, last, top, work);
+        first = ends.first;
+        last = ends.last;
+        top = ends.top;
+        i -= 1;
     }
-    let b = top(work, p);
-    join(os, b, 0);
+    if first != last {
+        return refuse(7, 0);
+    }
+    join(work, last, 0);
+    accept(t as u32, (t / 2 + 2) as u32)
 }
 
 // The vertex at the corner after, and before, the one that faces i.
@@ -277,11 +273,36 @@ fn fill(s: &[u8], os: &[u32], vs: &mut [u32])
     }
 }
 
-// The tables of a string that closes.
-pub fn build(s: &[u8], vs: &mut [u32], os: &mut [u32], work: &mut [u32])
-    requires { ⌜ Buildable (now s) (now vs) (now os) (now work) ⌝ }
+// The first numbers of the work space, as many as the table has.
+fn copy(work: &[u32], os: &mut [u32])
+    requires { ⌜ length (now os) ≤ length (now work) ⌝ }
+    ensures { λ _. ⌜ now (os .exit) ≡ take (length (now (os .entry))) (now (work .entry)) ⌝ }
+{
+    let mut i = 0;
+    while i < os.len() {
+        os[i] = work[i];
+        i += 1;
+    }
+}
+
+// The records of the S triangles, where their tips will stand.
+fn spread(t: usize, work: &[u32], vs: &mut [u32])
+    requires { ⌜ (t ≤ 65536) × (4 * t ≤ length (now work)) × (3 * t ≤ length (now vs)) ⌝ }
+    ensures { λ _. ⌜ Spread t (now (work .entry)) (now (vs .exit)) ⌝ }
+{
+    let mut k = 0;
+    while k < t {
+        vs[3 * k] = work[3 * t + k];
+        k += 1;
+    }
+}
+
+// The tables of a string that closes, from what the first pass left in the work space.
+pub fn build(s: &[u8], work: &[u32], vs: &mut [u32], os: &mut [u32])
+    requires { ⌜ Buildable (now s) (now work) (now vs) (now os) ⌝ }
     ensures { λ _. ⌜ Built (now (s .entry)) (now (vs .exit)) (now (os .exit)) ⌝ }
 {
-    zip(s, vs, os, work);
+    copy(work, os);
+    spread(s.len(), work, vs);
     fill(s, os, vs);
 }

@@ -1,59 +1,14 @@
--- `judge_letters` meets its contract: the checks 3 to 5 in their order, then those of the widths.
+-- `judge_letters` meets its contract: the checks 3 to 5, then those of the widths.
 use mathlib.Core.Path.{_∙_}
 use borrow.Author.Needs.{needs}
-use Rattle.theory.proofs.JudgeLaws.{breaks-five, breaks-four, breaks-three, none-breaks}
-use Rattle.theory.proofs.Opens.{ends}
-use Rattle.theory.specs.Lists.{all}
 use Rattle.judge.proofs.judge_letters.Statement.{statement}
 use Rattle.judge.proofs.judge_letters.Tie as tie
 
-first-foreign-requires : tie.Need-first-foreign-requires
-first-foreign-requires c κs = search needs
-
-cast-refuse : tie.Need-cast-refuse
-cast-refuse c = search needs
-
-refuse-requires : tie.Need-refuse-requires
-refuse-requires c κs = search needs
+judge-words-requires : tie.Need-judge-words-requires
+judge-words-requires c κs = search needs
 
 returns : tie.Need-returns
-returns c =
-    let found = c .before .before in
-    let s = found .before .before .before .args .s .now in
-    c .refuse .ensures ∙ breaks-three s _ (found .first-foreign .ensures) (c .before .if1 .taken)
-
-words-end-requires : tie.Need-words-end-requires
-words-end-requires c κs = search needs
-
-cast-refuse-2 : tie.Need-cast-refuse-2
-cast-refuse-2 c = search needs
-
-refuse-requires-2 : tie.Need-refuse-requires-2
-refuse-requires-2 c κs = search needs
-
-returns-2 : tie.Need-returns-2
-returns-2 c =
-    let ended = c .before .before in
-    let found = ended .before .before in
-    let s = found .before .before .before .args .s .now in
-    let letters = ended .before .if1 .left in
-    let ends = breaks-four s _ (found .first-foreign .ensures) letters _ (ended .words-end .ensures) in
-    c .refuse2 .ensures ∙ ends (c .before .if2 .taken)
-
-cast-refuse-3 : tie.Need-cast-refuse-3
-cast-refuse-3 c = search needs
-
-refuse-requires-3 : tie.Need-refuse-requires-3
-refuse-requires-3 c κs = search needs
-
-returns-3 : tie.Need-returns-3
-returns-3 c =
-    let ended = c .before .before .before in
-    let found = ended .before .before in
-    let s = found .before .before .before .args .s .now in
-    let letters = ended .before .if1 .left in
-    let ends = breaks-five s _ (found .first-foreign .ensures) letters _ (ended .words-end .ensures) in
-    c .refuse3 .ensures ∙ ends (c .before .before .if2 .left) (c .before .if3 .taken)
+returns c = c .before .before .judge-words .ensures .refused (c .if1 .taken)
 
 judge-widths-requires : tie.Need-judge-widths-requires
 judge-widths-requires c κs = search needs
@@ -61,32 +16,13 @@ judge-widths-requires c κs = search needs
 same-length : tie.Need-same-length
 same-length c = search needs
 
-returns-4 : tie.Need-returns-4
-returns-4 c =
+returns-2 : tie.Need-returns-2
+returns-2 c =
     let judged = c .before .before in
     let fits = judged .before .before in
-    let ended = fits .before .before in
-    let found = ended .before .before in
-    let s = found .before .before .before .args .s .now in
-    let letters = ended .before .if1 .left in
-    let ends = none-breaks s _ (found .first-foreign .ensures) letters _ (ended .words-end .ensures) in
-    judged .judge-widths .ensures ∙ ends (fits .before .if2 .left) (fits .if3 .left)
+    let parsed = fits .before .before .judge-words .ensures in
+    judged .judge-widths .ensures ∙ parsed .passed (fits .if1 .left) .rest
 
 pub judge-letters-spec : {M : Type 1} → statement M
 judge-letters-spec =
-    tie.close
-    (tie.spec
-    first-foreign-requires
-    cast-refuse
-    refuse-requires
-    returns
-    words-end-requires
-    cast-refuse-2
-    refuse-requires-2
-    returns-2
-    cast-refuse-3
-    refuse-requires-3
-    returns-3
-    judge-widths-requires
-    same-length
-    returns-4)
+    tie.close (tie.spec judge-words-requires returns judge-widths-requires same-length returns-2)

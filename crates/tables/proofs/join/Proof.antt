@@ -1,23 +1,29 @@
--- `join` meets its contract: two stores are a join.
+-- `join` meets its contract: two stores.
+use Rattle.theory.specs.Tables.{joinAt}
 use borrow.Author.Needs.{needs}
-use Rattle.tables.proofs.Turning.{joined-in}
 use Rattle.tables.proofs.join.Statement.{statement}
 use Rattle.tables.proofs.join.Tie as tie
 
-put-requires : tie.Need-put-requires
-put-requires c κs = search needs
+mul-work : tie.Need-mul-work
+mul-work c = search needs
 
-put-requires-2 : tie.Need-put-requires-2
-put-requires-2 c κs = search needs
+slice-write-work : tie.Need-slice-write-work
+slice-write-work c = search needs
+
+mul-work-2 : tie.Need-mul-work-2
+mul-work-2 c = search needs
+
+slice-write-work-2 : tie.Need-slice-write-work-2
+slice-write-work-2 c = search needs
 
 same-length : tie.Need-same-length
 same-length c = search needs
 
 returns : tie.Need-returns
-returns c =
-    let second = c .before .before in
-    let first = second .before .before .before .before in
-    joined-in _ _ _ _ _ (first .put .ensures) (second .put2 .ensures)
+unfolding joinAt
+returns c = search needs
 
 pub join-spec : {M : Type 1} → statement M
-join-spec = tie.close (tie.spec put-requires put-requires-2 same-length returns)
+join-spec =
+    tie.close
+    (tie.spec mul-work slice-write-work mul-work-2 slice-write-work-2 same-length returns)

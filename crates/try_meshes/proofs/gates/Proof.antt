@@ -3,7 +3,6 @@ use mathlib.Core.Path.{_≡_}
 use Prim.Native.Nat.{_-_, _≤_}
 use lib.ListN.{length}
 use borrow.Author.Needs.{needs}
-use Rattle.tables.specs.Zip.{kind}
 use Rattle.theory.specs.Walk.{walk}
 use Rattle.try_meshes.proofs.gates.Statement.{statement}
 use Rattle.try_meshes.proofs.gates.Tie as tie

@@ -4,7 +4,6 @@ use Prim.Native.Nat.{_-_, _≤_}
 use lib.ListN.{length}
 use borrow.Author.Needs.{needs}
 use Rattle.judge.specs.Widths.{total}
-use Rattle.tables.specs.Zip.{kind}
 use Rattle.theory.specs.Walk.{walk}
 use Rattle.try_meshes.proofs.over.Statement.{statement}
 use Rattle.try_meshes.proofs.over.Tie as tie
