@@ -19,6 +19,7 @@ use Rattle.conn.specs.Inner.{ReadLetters, ReadRoom, WriteLetters, WriteR
 use Rattle.sweep.specs.Judged.{Judges as SweepJudges}
 use Rattle.tables.specs.Built.{Built}
 use Rattle.theory.proofs.AnswerLaws.{count-few}
+use Rattle.theory.proofs.Closing.{answer-closes, closes-answer}
 use Rattle.theory.proofs.CallLaws.{Later, Outcome, cleared-later, filled-done, filled-refused, later-mesh, later-string, sized-rest, went-on}
 use Rattle.theory.proofs.Neighbours.{later}
 use Rattle.theory.proofs.TestLaws.{and-left, and-right}
@@ -28,7 +29,7 @@ use Rattle.theory.specs.Judge.{letterAnswer, letterRungs, stringAnswer, stringD
 use Rattle.theory.specs.Mesh.{meshAnswer, meshRungs, shapeOk}
 use Rattle.theory.specs.Tables.{tableO, tableV, vertices}
 use Rattle.theory.specs.Walk.{cornersOf, lettersOf, meshWalk, walk}
-use Rattle.theory.specs.Word.{wordOf}
+use Rattle.theory.specs.Word.{Closes, wordOf}
 use Rattle.theory.specs.declared.Answer.{Answer}
 use Rattle.walk.proofs.Made.{corners-codes, letters-codes}
 use Rattle.walk.specs.Calls.{Spelt, cornersIn, lettersIn}
@@ -94,12 +95,15 @@ module _ {s vs os work : List ℕ} {a : Answer} where
 pub read-room : {s vs os work : List ℕ} → countOk (length s) ≡ true → readFits s vs os work ≡ true → ReadRoom s vs os work
 read-room {s} {vs} {os} {work} ok fits =
     let r = all-enough (3 * length s) (length vs) (3 * length s) (length os) (12 * length s) (length work) fits in
-    record { few = count-few (length s) ok .2; vertices = r .0; neighbours = r .1; room = r .2 }
+    let c = count-few (length s) ok in
+    record { some = c .1; few = c .2; vertices = r .0; neighbours = r .1; room = r .2 }
 
 module _ {s vs os work work′ : List ℕ} {a : Answer} where
+  -- a string that does not close is refused
   pub letters-kept :
-      a ≡ letterAnswer s → a .number ≢ 0 → work′ ≡ replicate (length work) 0 → ReadLetters s vs os work a vs os work′
-  letters-kept e h z =
+      a ≡ letterAnswer s → (Closes s → ⊥) → work′ ≡ replicate (length work) 0 → ReadLetters s vs os work a vs os work′
+  letters-kept e n z =
+      let h : a .number ≢ 0 = λ q. n (answer-closes s (sym (ap (λ (r : Answer). r .number) e) ∙ q)) in
       record {
         answer = e;
         vertices = sym (filled-refused a (tableV (wordOf s)) vs h);
@@ -109,11 +113,12 @@ module _ {s vs os work work′ : List ℕ} {a : Answer} where
 
   -- n entries of each table were lent and filled
   pub letters-made :
-      {n : ℕ} {m o : List ℕ} → a ≡ letterAnswer s → a .number ≡ 0 → Built s m o → length m ≡ n → length o ≡ n
+      {n : ℕ} {m o : List ℕ} → Closes s → a ≡ stringDone s → Built s m o → length m ≡ n → length o ≡ n
       → work′ ≡ replicate (length work) 0 → ReadLetters s vs os work a (m ++ drop n vs) (o ++ drop n os) work′
-  letters-made {m = m} {o = o} e h b p q z =
+  letters-made {m = m} {o = o} c e b p q z =
+      let h = ap (λ (r : Answer). r .number) e in
       record {
-        answer = e;
+        answer = e ∙ sym (closes-answer s c);
         vertices = rw (← p, b .vertices) (sym (filled-done a (tableV (wordOf s)) vs h));
         neighbours = rw (← q, b .neighbours) (sym (filled-done a (tableO (wordOf s)) os h));
         space = z;

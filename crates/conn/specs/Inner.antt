@@ -17,6 +17,7 @@ use Rattle.theory.specs.Word.{wordOf}
 use Rattle.theory.specs.declared.Answer.{Answer}
 
 pub record ReadRoom (s vs os work : List ℕ) : Type 0 where
+  pub some : 2 ≤ length s
   pub few : length s ≤ 65536
   pub vertices : 3 * length s ≤ length vs
   pub neighbours : 3 * length s ≤ length os

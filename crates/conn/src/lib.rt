@@ -13,7 +13,7 @@ ghost use lib.Dec.{leb};
 ghost use Rattle.theory.specs.Calls.{Judges, Reads, Checks, Writes};
 ghost use Rattle.conn.specs.Inner.{ReadRoom, ReadLetters, WriteRoom, WriteLetters};
 use judge::judge_letters;
-use judge::judge_words;
+use lent::accept;
 use lent::clear;
 use lent::count_ok;
 use lent::refuse;
@@ -72,20 +72,16 @@ fn read_letters(letters: &[u8], vs: &mut [u32], os: &mut [u32], work: &mut [u32]
     requires { ⌜ ReadRoom (now letters) (now vs) (now os) (now work) ⌝ }
     ensures { λ r. ⌜ ReadLetters (now (letters .entry)) (now (vs .entry)) (now (os .entry)) (now (work .entry)) r (now (vs .exit)) (now (os .exit)) (now (work .exit)) ⌝ }
 {
-    let parsed = judge_words(letters);
-    if parsed.number != 0 {
-        clear(work);
-        return parsed;
-    }
-    let a = fold(letters, work);
-    if a.number != 0 {
+    if !fold(letters, work) {
+        let a = judge_letters(letters, work);
         clear(work);
         return a;
     }
-    let n = 3 * letters.len();
+    let t = letters.len();
+    let n = 3 * t;
     build(letters, work, &mut vs[..n], &mut os[..n]);
     clear(work);
-    a
+    accept(t as u32, (t / 2 + 2) as u32)
 }
 
 // Judges the tables of a mesh with v vertices from the gate corner. Numbers 1, 2, 8 to 15.

@@ -51,6 +51,10 @@ full-drop (suc i) (b ∷ s) h = full-drop i s (h .1)
 pub full-at : (s : List ℕ) (i : ℕ) → Full s → i < length s → Enough (letter (getD s i 0)) (words (drop (suc i) s))
 full-at s i h l = (subst Full (drop-cons s i 0 l) (full-drop i s h)) .0
 
+pub full-cons : (s : List ℕ) (i : ℕ) → i < length s → Full (drop (suc i) s)
+    → Enough (letter (getD s i 0)) (words (drop (suc i) s)) → Full (drop i s)
+full-cons s i l h e = subst Full (sym (drop-cons s i 0 l)) (e, h)
+
 pub full-word : (w : Word) (s : List ℕ) → spell w ≡ s → Full s
 full-word w s e = subst Full (append-nil (spell w) ∙ e) (full-spell w [] tt)
 

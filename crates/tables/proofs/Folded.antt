@@ -1,30 +1,28 @@
--- The ends of the first pass: the width that is left, and table O and the records where it is 2.
-use mathlib.Core.Bool.{not}
-use mathlib.Core.List.{List, [], _∷_}
+-- The ends of the first pass: one word of width 2 is left or not, and table O and the records where it is.
+use mathlib.Core.Bool.{false, true}
+use mathlib.Core.List.{List, [], _∷_, append-nil}
 use mathlib.Core.Logic.{_≢_}
-use mathlib.Core.Path.{_∙_, _≡_, ap, refl, sym}
-use Prim.Native.Nat.{_*_, _+_, _<_, _≤_, suc, zero, ℕ}
+use mathlib.Core.Path.{_∙_, _≡_, ap, refl, subst, sym}
+use Prim.Native.Nat.{_*_, _+_, _-_, _<_, _≤_, ℕ}
 use native.Mathlib.Omega.{arith}
 use lib.Dec.{eqb}
 use lib.ListN.{drop, getD, length, take}
 use lib.Seq.{getD-take, length-take-le}
-use borrow.Author.Tests.{eq-eqb, eqb-true, ne-eqb}
+use borrow.Author.Tests.{eq-eqb, eqb-true}
 use Rattle.tables.proofs.Corners.{each-same, inner, inner-in, inner-not-open, join-left, join-off, join-right, last-in, length-join, open-in, some-open}
+use Rattle.tables.proofs.Enough.{Full}
 use Rattle.tables.proofs.Folding.{Folding, first-same}
 use Rattle.tables.proofs.Held.{Held, Standing, recorded-same}
 use Rattle.tables.proofs.Neighbours.{made-table}
-use Rattle.tables.specs.Fold.{Fold, Foldable, Folded, Joined, foldIn}
-use Rattle.theory.proofs.GreatestLaws.{down-end}
-use Rattle.theory.proofs.JudgeLaws.{breaks-seven, seven-passed}
+use Rattle.tables.proofs.Stopping.{spells, spelt-words}
+use Rattle.tables.specs.Fold.{Foldable, Folded, Joined, foldIn}
 use Rattle.theory.proofs.Opens.{mates, opens}
-use Rattle.theory.proofs.WordLaws.{length-spell, word-of-spell, words-one}
-use Rattle.theory.specs.Answer.{firstBroken, refused}
+use Rattle.theory.proofs.TestLaws.{not-both}
+use Rattle.theory.proofs.WordLaws.{length-spell, words-one}
 use Rattle.theory.specs.Corner.{opposite}
-use Rattle.theory.specs.Judge.{letterRungs, pinchedAt, stringDone}
-use Rattle.theory.specs.Lists.{back, greatest}
+use Rattle.theory.specs.Lists.{back}
 use Rattle.theory.specs.Tables.{joinAt, links, tableO}
-use Rattle.theory.specs.Word.{Word, firstWord, size, width, wordOf, words}
-use Rattle.theory.specs.declared.Answer.{Answer}
+use Rattle.theory.specs.Word.{Closes, Word, firstWord, size, spell, width, wordOf, words}
 
 -- the last open side of a word of width 2 joined to corner 0
 module _ (t : ℕ) (work : List ℕ) (w : Word) (h : Held t work 0 w) (two : width w ≡ 2) (is : size w ≡ t)
@@ -78,57 +76,72 @@ module _ (t : ℕ) (work : List ℕ) (w : Word) (h : Held t work 0 w) (two : wid
         records = rw (n, e) (recorded-same t work whole 0 w (λ i a b. off i) (h .records));
       }
 
+pub stopped : (s : List ℕ) → (Closes s → ⊥) → (work′ : List ℕ) → Folded s false work′
+stopped s n work′ =
+    record {
+      closes = λ z. absurd (not-both false z refl);
+      refuses = λ z. n;
+      made = λ z. absurd (not-both false z refl);
+    }
+
+-- the words at the end of the loop
 module _ (s work₀ work : List ℕ) (first last top i : ℕ) (can : Foldable s work₀)
     (inv : Folding s work₀ work first last top i) (end : i ≤ 0) where
-  is-word : wordOf s ≡ can .word
-  is-word = ap wordOf (sym (can .spelt)) ∙ word-of-spell (can .word)
+  at-start : i ≡ 0
+  at-start = omega arith
 
-  stands : Standing (length s) (foldIn work first last top) (can .word ∷ []) 0
-  stands = go i end (inv .stands)
-    where
-      only : words s ≡ can .word ∷ []
-      only = ap words (sym (can .spelt)) ∙ words-one (can .word)
+  all-words : Standing (length s) (foldIn work first last top) (words s) 0
+  all-words = subst (λ (j : ℕ). Standing (length s) (foldIn work first last top) (words (drop j s)) j) at-start (inv .stands)
 
-      go : (i : ℕ) → i ≤ 0 → Standing (length s) (foldIn work first last top) (words (drop i s)) i
-          → Standing (length s) (foldIn work first last top) (can .word ∷ []) 0
-      go zero n h = rw only at h
-      go (suc i) n h = absurd (omega arith)
+  deep : length work - top ≡ 3 * length (words s)
+  deep = subst (λ (j : ℕ). length work - top ≡ 3 * length (words (drop j s))) at-start (inv .deep)
 
-  none-pinched : greatest (λ q. not (pinchedAt s q)) (length s) ≡ length s
-  none-pinched = down-end (λ q. not (pinchedAt s q)) (length s) i (inv .free) end
+  spelt : spells (words s) ≡ s
+  spelt =
+      spelt-words s (λ q l. inv .known q (omega arith) l)
+      (subst (λ (j : ℕ). Full (drop j s)) at-start (inv .full))
 
-  ends-same : eqb first last ≡ eqb (width (can .word)) 2
+  -- in a string that closes there is one
+  only : (c : Closes s) → words s ≡ c .word ∷ []
+  only c = ap words (sym (c .spelt)) ∙ words-one (c .word)
+
+  one-width : (w : Word) → words s ≡ w ∷ [] → eqb first last ≡ eqb (width w) 2
   unfolding foldIn firstWord
-  ends-same = first-same (length s) (foldIn work first last top) (can .word ∷ []) 0 (omega arith) stands
+  one-width w e =
+      first-same (length s) (foldIn work first last top) (w ∷ []) 0 (omega arith)
+      (subst (λ (ws : List Word). Standing (length s) (foldIn work first last top) ws 0) e all-words)
 
-  pub folded-wide : (a : Answer) → (first ≡ last → ⊥) → a ≡ refused 7 0 → (work′ : List ℕ) → Folded s a work′
-  folded-wide a h e work′ =
-      record {
-        answer = e ∙ breaks-seven s none-pinched (ap (λ (w : Word). eqb (width w) 2) is-word ∙ sym ends-same ∙ ne-eqb first last h);
-        made = λ z. absurd (let q = sym (ap (λ (r : Answer). r .number) e) ∙ z in omega arith);
-      }
+  pub folded-many : (n : ℕ) → n ≡ length work → n - top ≢ 3 → (work′ : List ℕ) → Folded s false work′
+  folded-many n is h work′ =
+      stopped s (λ c. h (let d = deep in let o = ap (λ (ws : List Word). length ws) (only c) in omega arith)) work′
 
-  pub folded-done : (a : Answer) → first ≡ last → a ≡ stringDone s → (work′ : List ℕ) → work′ ≡ joinAt last 0 work
-      → Folded s a work′
-  unfolding foldIn
-  folded-done a h e work′ f =
-      let w = can .word in
-      let n : length s ≡ size w = ap length (sym (can .spelt)) ∙ length-spell w in
-      let st = stands in
-      let test = sym ends-same ∙ eq-eqb first last h in
-      let two : width w ≡ 2 = eqb-true (width w) 2 test in
-      let sp = can .space in
-      let sm = inv .same in
-      let done = whole-joined (length s) work w (st .0) two (sym n) (omega arith) s refl is-word in
-      record {
-        answer = e ∙ seven-passed s none-pinched (ap (λ (w : Word). eqb (width w) 2) is-word ∙ test);
-        made = λ z. rw (f, st .2) done;
-      }
+  pub folded-wide : first ≢ last → (work′ : List ℕ) → Folded s false work′
+  folded-wide h work′ =
+      stopped s (λ c. h (eqb-true first last (one-width (c .word) (only c) ∙ eq-eqb (width (c .word)) 2 (c .two)))) work′
 
-pub folded-stop : (s : List ℕ) (a : Answer) (p : ℕ) → a ≡ refused 6 p
-    → refused 6 p ≡ firstBroken (drop 3 (letterRungs s)) (stringDone s) → (work′ : List ℕ) → Folded s a work′
-folded-stop s a p e f work′ =
-    record {
-      answer = e ∙ f;
-      made = λ z. absurd (let q = sym (ap (λ (r : Answer). r .number) e) ∙ z in omega arith);
-    }
+  pub folded-done : (n : ℕ) → n ≡ length work → n - top ≡ 3 → first ≡ last → (work′ : List ℕ) → work′ ≡ joinAt last 0 work
+      → Folded s true work′
+  unfolding foldIn firstWord
+  folded-done n is h same work′ f = go (words s) refl
+    where
+      made : (w : Word) → words s ≡ w ∷ [] → spell w ≡ s → width w ≡ 2
+          → Standing (length s) (foldIn work first last top) (w ∷ []) 0 → Folded s true work′
+      made w e letters two st =
+          let sp = can .space in
+          let sm = inv .same in
+          let n = sym (length-spell w) ∙ ap length letters in
+          let joined = whole-joined (length s) work w (st .0) two n (omega arith) s refl (ap firstWord e) in
+          record {
+            closes = λ z. record { word = w; spelt = letters; sound = st .0 .sound; two = two };
+            refuses = λ z. absurd (not-both true refl z);
+            made = λ z. rw (f, st .2) joined;
+          }
+
+      go : (ws : List Word) → words s ≡ ws → Folded s true work′
+      go [] e = absurd (let d = deep in let o = ap (λ (vs : List Word). length vs) e in omega arith)
+      go (w ∷ (v ∷ ws)) e = absurd (let d = deep in let o = ap (λ (vs : List Word). length vs) e in omega arith)
+      go (w ∷ []) e =
+          let st = subst (λ (vs : List Word). Standing (length s) (foldIn work first last top) vs 0) e all-words in
+          let letters : spell w ≡ s = sym (append-nil (spell w)) ∙ sym (ap spells e) ∙ spelt in
+          let two = eqb-true (width w) 2 (sym (one-width w e) ∙ eq-eqb first last same) in
+          made w e letters two st

@@ -1,35 +1,33 @@
 -- The loop of the first pass: its invariant, how it begins, a turn of it, and where it stops.
 --
---   Folding        the letters from i on are read: their words stand in the work space, and no C among them stands
---                  before a word of width 2
+--   Folding        the letters from i on are read, each with the words that it needs: these stand in the work space
 --   stepped        one letter more, by the laws of the five letters
---   test-same      what the code tests at a place is the definition's test
+--   closing        what each letter of a string that closes has behind it
 --   folding-..     the invariant, and what a step asks for
-use mathlib.Core.Bool.{Bool, _&&_, false, not, true}
-use mathlib.Core.List.{List, [], _∷_}
+use mathlib.Core.Bool.{false, true}
+use mathlib.Core.List.{List, [], _++_, _∷_, append-nil}
 use mathlib.Core.Path.{_∙_, _≡_, ap, refl, subst, sym}
 use Prim.Native.Nat.{_*_, _+_, _-_, _<_, _≤_, suc, zero, ℕ}
 use native.Mathlib.Omega.{arith}
 use lib.Dec.{eqb}
 use lib.ListN.{drop, getD, length}
 use lib.Seq.{drop-length}
-use borrow.Author.Tests.{eqb-false, eqb-true}
-use Rattle.tables.proofs.Enough.{Enough, Full, full-at, full-word, one-open, words-cons}
+use borrow.Author.Tests.{eqb-false}
+use Rattle.tables.proofs.Enough.{Enough, Full, full-at, full-cons, full-word, one-open, words-cons}
 use Rattle.tables.proofs.Folds.{standing-C, standing-L, standing-R}
 use Rattle.tables.proofs.Held.{Standing, standing-low}
 use Rattle.tables.proofs.Splices.{standing-E, standing-S}
-use Rattle.tables.specs.Fold.{Fold, Foldable, Room, foldC, foldE, foldIn, foldL, foldR, foldS, foldStep, spliced}
-use Rattle.theory.proofs.GreatestLaws.{Above, down-stop, down-turn}
-use Rattle.theory.proofs.JudgeLaws.{breaks-six}
+use Rattle.tables.proofs.Stopping.{Going, goes, never-stops}
+use Rattle.tables.specs.Fold.{Fold, Foldable, Room, foldC, foldE, foldIn, foldL, foldR, foldS, foldStep, spliced, stops}
+use Rattle.theory.proofs.GreatestLaws.{Above, down-turn}
 use Rattle.theory.proofs.LetterLaws.{letter-new}
-use Rattle.theory.proofs.Opens.{opens}
+use Rattle.theory.proofs.Pinches.{sound-free}
+use Rattle.theory.proofs.Reading.{Letters, letters-spell}
 use Rattle.theory.proofs.TestLaws.{and-rest}
-use Rattle.theory.proofs.WordLaws.{length-spell, size-one, width-two}
-use Rattle.theory.specs.Answer.{firstBroken, refused}
-use Rattle.theory.specs.Judge.{letterRungs, pinchedAt, stringDone}
-use Rattle.theory.specs.Letter.{byte, letter}
-use Rattle.theory.specs.Lists.{back, head}
-use Rattle.theory.specs.Word.{Word, before, firstWord, width, words}
+use Rattle.theory.proofs.WordLaws.{width-two}
+use Rattle.theory.specs.Judge.{pinchedAt}
+use Rattle.theory.specs.Letter.{byte, isLetter, letter}
+use Rattle.theory.specs.Word.{Closes, Word, before, firstWord, spell, width, words}
 use Rattle.theory.specs.declared.Letter.{Letter}
 use Rattle.theory.specs.declared.Letter.the-variants.{C, E, L, R, S}
 
@@ -87,13 +85,54 @@ some-before S [] n = absurd (omega arith)
 some-before S (a ∷ []) n = absurd (omega arith)
 some-before S (a ∷ (b ∷ ws)) n = omega arith
 
+-- three numbers more or less stand on the stack
+deeper : (t k : ℕ) (z : Fold) (a : Letter) (ws : List Word) → Enough a ws
+    → length (z .work) - z .top ≡ 3 * length ws → (3 ≤ z .top) × (z .top ≤ length (z .work))
+    → length (z .work) - foldStep a t k z .top ≡ 3 * length (before a ws)
+unfolding foldStep foldC foldL foldE foldR foldS spliced before
+deeper t k z C [] n d h = absurd (omega arith)
+deeper t k z C (w ∷ ws) n d h = d
+deeper t k z L [] n d h = absurd (omega arith)
+deeper t k z L (w ∷ ws) n d h = d
+deeper t k z E ws n d h = omega (arith, h .0, h .1)
+deeper t k z R [] n d h = absurd (omega arith)
+deeper t k z R (w ∷ ws) n d h = d
+deeper t k z S [] n d h = absurd (omega arith)
+deeper t k z S (a ∷ []) n d h = absurd (omega arith)
+deeper t k z S (a ∷ (b ∷ ws)) n d h = omega (arith, h .0, h .1)
+
+-- in a string that closes each letter has its words, and no C stands before a word of width 2
+closing : (s : List ℕ) (z : Fold) (i : ℕ) → 0 < i → i ≤ length s → Closes s
+    → Standing (length s) z (words (drop i s)) i → Going (getD s (i - 1) 0) (z .first) (z .last) (words (drop i s))
+unfolding pinchedAt
+closing s z zero m n c h = absurd (omega arith)
+closing s z (suc j) m n c h =
+    let q : suc j - 1 ≡ j = omega arith in
+    let w = c .word in
+    let ws = words (drop (suc j) s) in
+    let enough = full-at s j (full-word w s (c .spelt)) (omega arith) in
+    let letters : Letters s = rw (← c .spelt) (letters-spell w) in
+    let same : spell w ++ [] ≡ s = append-nil (spell w) ∙ c .spelt in
+    let free = sound-free w [] (c .sound) j (omega (arith, ap length (c .spelt))) in
+    let calm : pinchedAt s j ≡ false = ap (λ (r : List ℕ). pinchedAt r j) (sym same) ∙ free in
+    rw q (record {
+      enough = enough;
+      calm = λ l.
+          let b = letter-new (getD s j 0) l in
+          let one : 1 ≤ length ws = subst (λ (a : Letter). Enough a ws) l enough in
+          first-same (length s) z ws (suc j) one h ∙ and-rest (eqb (getD s j 0) (byte C)) (eqb (width (firstWord ws)) 2) b calm;
+      known = letters j (omega arith);
+    })
+
 -- ---- the loop
 
 pub record Folding (s work₀ work : List ℕ) (first last top i : ℕ) : Type 0 where
   pub at : i ≤ length s
   pub same : length work ≡ length work₀
-  pub free : Above (λ q. not (pinchedAt s q)) (length s) i
+  pub known : Above (λ q. isLetter (getD s q 0)) (length s) i
+  pub full : Full (drop i s)
   pub within : top ≤ length work
+  pub deep : length work - top ≡ 3 * length (words (drop i s))
   pub high : length work ≤ top + 3 * (length s - i)
   pub first-low : first < 3 * length s
   pub last-low : last < 3 * length s
@@ -102,41 +141,23 @@ pub record Folding (s work₀ work : List ℕ) (first last top i : ℕ) : Type 0
 pub begins : (s work : List ℕ) → Foldable s work → Folding s work work 0 0 (length work) (length s)
 unfolding words
 begins s work h =
-    let n = ap length (sym (h .spelt)) ∙ length-spell (h .word) in
-    let m = size-one (h .word) in
+    let n = h .some in
+    let none : words (drop (length s) s) ≡ [] = rw (drop-length s) in
     record {
       at = omega arith;
       same = refl;
-      free = λ y a b. absurd (omega arith);
+      known = λ y a b. absurd (omega arith);
+      full = rw (drop-length s) tt;
       within = omega arith;
+      deep = omega (arith, ap (λ (ws : List Word). length ws) none);
       high = omega arith;
       first-low = omega arith;
       last-low = omega arith;
       stands = rw (drop-length s) tt;
     }
 
-and-same : (x a b : Bool) → (x ≡ true → a ≡ b) → (x && a) ≡ (x && b)
-and-same true a b f = f refl
-and-same false a b f = refl
-
-test-same : (s : List ℕ) (z : Fold) (i : ℕ) → 0 < i → i ≤ length s → Full s
-    → Standing (length s) z (words (drop i s)) i
-    → (eqb (getD s (i - 1) 0) (byte C) && eqb (z .first) (z .last)) ≡ pinchedAt s (i - 1)
-unfolding pinchedAt letter
-test-same s z zero m n full h = absurd (omega arith)
-test-same s z (suc j) m n full h =
-    let q : suc j - 1 ≡ j = omega arith in
-    let ws = words (drop (suc j) s) in
-    let some : eqb (getD s j 0) (byte C) ≡ true → 1 ≤ length ws =
-    λ e. subst (λ (b : ℕ). Enough (letter b) ws) (eqb-true (getD s j 0) (byte C) e) (full-at s j full (omega arith)) in
-    rw q (and-same (eqb (getD s j 0) (byte C)) (eqb (z .first) (z .last)) (eqb (width (firstWord ws)) 2)
-    (λ e. first-same (length s) z ws (suc j) (some e) h))
-
 module _ (s work₀ work : List ℕ) (first last top i : ℕ) (can : Foldable s work₀)
     (inv : Folding s work₀ work first last top i) (more : 0 < i) where
-  full : Full s
-  full = full-word (can .word) s (can .spelt)
-
   pub folding-room : Room (length s) (i - 1) first last top work
   folding-room =
       record {
@@ -150,12 +171,13 @@ module _ (s work₀ work : List ℕ) (first last top i : ℕ) (can : Foldable s 
       }
 
   pub folding-turn : (work′ : List ℕ) (first′ last′ top′ : ℕ) → length work′ ≡ length work
-      → (eqb (getD s (i - 1) 0) (byte C) && eqb first last) ≡ false
+      → (end : ℕ) → end ≡ length work
+      → stops (letter (getD s (i - 1) 0)) (getD s (i - 1) 0) first last (end - top) ≡ false
       → (n : ℕ) → n ≡ length s
       → foldIn work′ first′ last′ top′ ≡ foldStep (letter (getD s (i - 1) 0)) n (i - 1) (foldIn work first last top)
       → Folding s work₀ work′ first′ last′ top′ (i - 1)
   unfolding foldIn
-  folding-turn work′ first′ last′ top′ same calm n is e₀ =
+  folding-turn work′ first′ last′ top′ same end is-end on n is e₀ =
       let t = length s in
       let k = i - 1 in
       let b = getD s k 0 in
@@ -170,12 +192,12 @@ module _ (s work₀ work : List ℕ) (first last top i : ℕ) (can : Foldable s 
       let e = e₀ ∙ ap (λ (m : ℕ). foldStep a m k z) is in
       let lower : k + 1 ≡ i = omega arith in
       let sk : suc k ≡ i = omega arith in
-      let enough : Enough a ws = subst (λ (j : ℕ). Enough a (words (drop j s))) sk (full-at s k full (omega arith)) in
+      let go = goes b first last (end - top) ws (omega (arith, inv .deep)) on in
+      let enough = go .enough in
       let before-is : words (drop k s) ≡ before a ws =
       words-cons s k (omega arith) ∙ ap (λ (j : ℕ). before a (words (drop j s))) sk in
       let now : Standing t z ws (k + 1) = subst (λ (j : ℕ). Standing t z ws j) (sym lower) (inv .stands) in
-      let new = stepped t k z (omega arith) (omega arith) (omega arith) wi a ws enough
-      (λ c. and-rest _ _ (letter-new b c) calm) now in
+      let new = stepped t k z (omega arith) (omega arith) (omega arith) wi a ws enough (go .calm) now in
       let t′ = tops t k z (omega arith) (omega arith) (omega arith) wi a ws enough now in
       let stands : Standing t (foldIn work′ first′ last′ top′) (words (drop k s)) k =
       subst (λ (y : Fold). Standing t y (words (drop k s)) k) (sym e)
@@ -183,23 +205,26 @@ module _ (s work₀ work : List ℕ) (first last top i : ℕ) (can : Foldable s 
       let low = standing-low t (foldIn work′ first′ last′ top′) (words (drop k s)) k
       (rw before-is (some-before a ws enough)) stands in
       let te = ap (λ (y : Fold). y .top) e in
-      let test = test-same s z i more at full (inv .stands) in
+      let de = deeper t k z a ws enough (omega (arith, inv .deep)) (omega arith) in
+      let dw = ap (λ (v : List Word). length v) before-is in
       record {
         at = omega arith;
         same = same ∙ sm;
-        free = down-turn (λ q. not (pinchedAt s q)) t i (inv .free) (ap not (sym test ∙ calm));
+        known = down-turn (λ q. isLetter (getD s q 0)) t i (inv .known) (go .known);
+        full = full-cons s k (omega arith) (subst (λ (j : ℕ). Full (drop j s)) (sym sk) (inv .full))
+            (subst (λ (j : ℕ). Enough a (words (drop j s))) (sym sk) enough);
         within = omega (arith, t′ .1, te, same);
+        deep = omega (arith, de, te, same, dw);
         high = omega (arith, t′ .0, te, same);
         first-low = low .0;
         last-low = low .1;
         stands = stands;
       }
 
-  pub folding-stop : (eqb (getD s (i - 1) 0) (byte C) && eqb first last) ≡ true
-      → refused 6 (i - 1) ≡ firstBroken (drop 3 (letterRungs s)) (stringDone s)
+  -- a string that closes goes on
+  pub folding-stop : (end : ℕ) → end ≡ length work
+      → stops (letter (getD s (i - 1) 0)) (getD s (i - 1) 0) first last (end - top) ≡ true → Closes s → ⊥
   unfolding foldIn
-  folding-stop e =
-      let test = test-same s (foldIn work first last top) i more (inv .at) full (inv .stands) in
-      let bad = ap not (sym test ∙ e) in
-      let place = down-stop (λ q. not (pinchedAt s q)) (length s) i (inv .free) more (inv .at) bad in
-      breaks-six s (i - 1) (omega (arith, inv .at)) place
+  folding-stop end is-end e c =
+      never-stops (getD s (i - 1) 0) first last (end - top) (words (drop i s)) (omega (arith, inv .deep))
+      (closing s (foldIn work first last top) i more (inv .at) c (inv .stands)) e

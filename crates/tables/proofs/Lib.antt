@@ -5,6 +5,7 @@ pub mod Held
 pub mod Folds
 pub mod Splices
 pub mod Enough
+pub mod Stopping
 pub mod Folding
 pub mod Neighbours
 pub mod Folded

@@ -7,19 +7,20 @@
 --   foldIn               what stands in the work space
 --   foldStep a t k z     one letter more, at triangle k
 --   Room                 room for a letter at triangle k
---   Foldable Folded      what the pass asks of a string, and what it leaves
+--   stops                the letter cannot stand there: words are missing, or a C stands before a word of width 2
+--   Foldable Folded      what the pass asks of a string, and what it answers and leaves
 --   Recorded t work k w  the record of each S of w, its first triangle k: the last open side of its right branch
+use mathlib.Core.Bool.{Bool, _||_, false, not, true}
 use mathlib.Core.List.{List}
 use mathlib.Core.Path.{_≡_}
 use Prim.Native.Nat.{_*_, _+_, _-_, _<_, _≤_, ℕ}
-use lib.ListN.{drop, getD, length, set, take}
+use lib.Dec.{eqb, ltb}
+use lib.ListN.{getD, length, set, take}
 use Rattle.theory.proofs.Opens.{opens}
-use Rattle.theory.specs.Answer.{firstBroken}
-use Rattle.theory.specs.Judge.{letterRungs, stringDone}
+use Rattle.theory.specs.Letter.{byte}
 use Rattle.theory.specs.Lists.{back}
 use Rattle.theory.specs.Tables.{joinAt, tableO}
-use Rattle.theory.specs.Word.{Word, size, spell, wC, wE, wL, wR, wS, wordOf}
-use Rattle.theory.specs.declared.Answer.{Answer}
+use Rattle.theory.specs.Word.{Closes, Word, size, wC, wE, wL, wR, wS, wordOf}
 use Rattle.theory.specs.declared.Letter.{Letter}
 use Rattle.theory.specs.declared.Letter.the-variants.{C, E, L, R, S}
 
@@ -107,12 +108,18 @@ pub record Room (t k first last top : ℕ) (work : List ℕ) : Type 0 where
   pub within : top ≤ length work
   pub space : 12 * t ≤ length work
 
--- one word and nothing else
+-- what keeps the byte b, of letter a, from standing before the words behind it; deep is three times their number
+unfoldable pub stops : Letter → ℕ → ℕ → ℕ → ℕ → Bool
+stops C b first last deep = ltb deep 3 || eqb first last
+stops L b first last deep = ltb deep 3
+stops E b first last deep = false
+stops R b first last deep = ltb deep 3
+stops S b first last deep = ltb deep 6 || not (eqb b (byte S))
+
 pub record Foldable (s work : List ℕ) : Type 0 where
+  pub some : 0 < length s
   pub few : length s ≤ 65536
   pub space : 12 * length s ≤ length work
-  pub word : Word
-  pub spelt : spell word ≡ s
 
 module _ (t : ℕ) (work : List ℕ) where
   abbrev pub Recorded : ℕ → Word → Type 0
@@ -127,6 +134,8 @@ pub record Joined (s work : List ℕ) : Type 0 where
   pub neighbours : take (3 * length s) work ≡ tableO (wordOf s)
   pub records : Recorded (length s) work 0 (wordOf s)
 
-pub record Folded (s : List ℕ) (a : Answer) (work : List ℕ) : Type 0 where
-  pub answer : a ≡ firstBroken (drop 3 (letterRungs s)) (stringDone s)
-  pub made : a .number ≡ 0 → Joined s work
+-- r says whether the string closes
+pub record Folded (s : List ℕ) (r : Bool) (work : List ℕ) : Type 0 where
+  pub closes : r ≡ true → Closes s
+  pub refuses : r ≡ false → Closes s → ⊥
+  pub made : r ≡ true → Joined s work

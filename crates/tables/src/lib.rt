@@ -4,24 +4,18 @@
 // The open sides of a word are a list that is linked through their own entries of table O. Each letter does what its
 // definition says; that this makes the tables of a string that closes is a law of the definitions.
 ghost use mathlib.Core.Path.{_≡_};
-ghost use mathlib.Core.Bool.{_&&_};
 ghost use Prim.Native.Nat.{ℕ, _+_, _-_, _*_, _<_, _≤_};
-ghost use lib.Dec.{eqb};
 ghost use lib.ListN.{length, set, take};
-ghost use Rattle.theory.specs.Letter.{byte, letter};
-ghost use Rattle.theory.specs.declared.Letter.the-variants as Is;
+ghost use Rattle.theory.specs.Letter.{letter};
 ghost use Rattle.theory.specs.Tables.{joinAt};
 ghost use Rattle.tables.specs.Built.{Buildable, Built, Spread};
-ghost use Rattle.tables.specs.Fold.{Foldable, Folded, Room, foldC, foldE, foldIn, foldL, foldR, foldS, foldStep, pushed};
+ghost use Rattle.tables.specs.Fold.{Foldable, Folded, Room, foldC, foldE, foldIn, foldL, foldR, foldS, foldStep, pushed, stops};
 ghost use Rattle.tables.specs.Fill.{afterFacing, beforeFacing, tip, leftEnd, rightEnd, fillStep, fresh, fillRun};
 use corner::next_of;
 use corner::previous_of;
-use lent::accept;
 use lent::at;
 use lent::letter_of;
 use lent::put;
-use lent::refuse;
-use theory::Answer;
 use theory::Letter;
 
 // A word: the ends of its open sides, and where the stack of the words behind it stands.
@@ -144,30 +138,45 @@ fn step(b: u8, t: usize, k: u32, first: u32, last: u32, top: usize, work: &mut [
     }
 }
 
-// The byte b is a C, and the word behind it has one open side.
-fn pinched(b: u8, first: u32, last: u32) -> bool
-    ensures { λ r. ⌜ r ≡ (eqb b (byte Is.C) && eqb first last) ⌝ }
+// The byte b cannot stand before the words behind it, of which deep counts three for each: words are missing, it is a C
+// before a word with one open side, or it is no letter.
+fn stops(b: u8, first: u32, last: u32, deep: usize) -> bool
+    ensures { λ r. ⌜ r ≡ stops (letter b) b first last deep ⌝ }
 {
-    if b == 67 {
-        return first == last;
+    match letter_of(b) {
+        Letter::C => {
+            if deep < 3 {
+                return true;
+            }
+            first == last
+        }
+        Letter::L => deep < 3,
+        Letter::E => false,
+        Letter::R => deep < 3,
+        Letter::S => {
+            if deep < 6 {
+                return true;
+            }
+            b != 83
+        }
     }
-    false
 }
 
-// Numbers 6 and 7, and the neighbours of all triangles where the string closes.
-pub fn fold(s: &[u8], work: &mut [u32]) -> Answer
+// Whether a string closes; then the neighbours of its triangles and the records stand in the work space.
+pub fn fold(s: &[u8], work: &mut [u32]) -> bool
     requires { ⌜ Foldable (now s) (now work) ⌝ }
     ensures { λ r. ⌜ Folded (now (s .entry)) r (now (work .exit)) ⌝ }
 {
     let t = s.len();
+    let end = work.len();
     let mut first = 0;
     let mut last = 0;
-    let mut top = work.len();
+    let mut top = end;
     let mut i = t;
     while 0 < i {
         let b = s[i - 1];
-        if pinched(b, first, last) {
-            return refuse(6, (i - 1) as u32);
+        if stops(b, first, last, end - top) {
+            return false;
         }
         let ends = step(b, t, (i - 1) as u32, first, last, top, work);
         first = ends.first;
@@ -175,11 +184,14 @@ pub fn fold(s: &[u8], work: &mut [u32]) -> Answer
         top = ends.top;
         i -= 1;
     }
+    if end - top != 3 {
+        return false;
+    }
     if first != last {
-        return refuse(7, 0);
+        return false;
     }
     join(work, last, 0);
-    accept(t as u32, (t / 2 + 2) as u32)
+    true
 }
 
 // The vertex at the corner after, and before, the one that faces i.

@@ -25,7 +25,7 @@ letters-cons : (b : ℕ) (s : List ℕ) → isLetter b ≡ true → Letters s �
 letters-cons b s e h zero l = e
 letters-cons b s e h (suc i) l = h i (omega arith)
 
-letters-tail : (b : ℕ) (s : List ℕ) → Letters (b ∷ s) → Letters s
+pub letters-tail : (b : ℕ) (s : List ℕ) → Letters (b ∷ s) → Letters s
 letters-tail b s h i l = h (suc i) (omega arith)
 
 letters-append : (s t : List ℕ) → Letters s → Letters t → Letters (s ++ t)
