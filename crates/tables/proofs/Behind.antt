@@ -1,17 +1,17 @@
 -- The second pass where the triangles of a word begin (`OnLoop`), handed on to the words behind its letter
 -- (`behind-..`), and the vertex at the tip of the letter's triangle (`tip-is-..`).
 --
--- The tip of L, E and R, and the ends of every triangle, stand behind an edge that is joined to an earlier triangle
--- (D6). The tip of an S stands behind the last open side of its right branch, which the first pass recorded.
+-- The tip of L, E and R stands behind an edge that is joined to an earlier triangle (D6), as do the ends of the first
+-- triangle of a left branch. The tip of an S stands behind the last open side of its right branch, which is recorded.
 use mathlib.Core.List.{List, [], _++_, _∷_}
 use mathlib.Core.Path.{_∙_, _≡_, ap, subst, sym}
 use Prim.Native.Nat.{_*_, _+_, _-_, _<_, _≤_, suc, ℕ}
 use native.Mathlib.Omega.{arith}
 use lib.ListN.{drop, getD, length, length-append, length-drop, take}
 use lib.Seq.{length-take-le}
-use Rattle.tables.proofs.Filled.{Ends, after-mix, before-mix, ends-link, mix, mix-at}
+use Rattle.tables.proofs.Filled.{after-mix, before-mix, here, mix, resumed-here}
 use Rattle.tables.proofs.Noted.{Noted}
-use Rattle.tables.specs.Fill.{afterFacing, tip}
+use Rattle.tables.specs.Fill.{afterFacing, beforeFacing, resumed}
 use Rattle.theory.proofs.Chain.{Each}
 use Rattle.theory.proofs.CornerLaws.{next-right, previous-left, previous-right}
 use Rattle.theory.proofs.Each.{EachN, each-back, each-drop, each-first, each-front, each-take, each-tl, eachN-append, eachN-map}
@@ -26,9 +26,8 @@ use Rattle.theory.specs.Corner.{opposite, right, vertex}
 use Rattle.theory.specs.Lists.{back, front, head, tail}
 use Rattle.theory.specs.Tables.{links, zips}
 use Rattle.theory.specs.Word.{Word, news, size, wC, wE, wL, wR, wS, width}
-use Rattle.theory.specs.declared.Letter.the-variants.{E, L, R, S}
 
-module _ (vt vs₀ ot : List ℕ) (same : length vs₀ ≡ length vt) where
+module _ (vt vs₀ ot ns : List ℕ) (same : length vs₀ ≡ length vt) where
   abbrev J : ℕ → ℕ → Type 0
   J a b = Join (opposite ot) a b
 
@@ -43,16 +42,12 @@ module _ (vt vs₀ ot : List ℕ) (same : length vs₀ ≡ length vt) where
     pub loop : length us ≡ width w
     pub rows : Rows (vertex vt) k nv w us
     pub edges : Edges (vertex vt) us rs
-    pub bottom : Ends vt vs₀ ot same k
-    pub noted : Noted vs₀ k w
+    pub noted : Noted ns k w
     pub within : 3 * (k + size w) ≤ length vt
 
-  agreed : (w : Word) (k nv : ℕ) (us rs : List ℕ) → OnLoop w k nv us rs
+  pub agreed : (w : Word) (k nv : ℕ) (us rs : List ℕ) → OnLoop w k nv us rs
       → Each (Agree (vertex vt)) (links k w) × Each (Agree (vertex vt)) (zips k w rs)
   agreed w k nv us rs h = agree (vertex vt) k nv w us rs (h .holds .sound) (h .loop) (h .rows) (h .edges)
-
-  below : (a j : ℕ) → a < 3 * j → 3 * j ≤ length vt → J a (3 * j) → Agree (vertex vt) a (3 * j) → Ends vt vs₀ ot same j
-  below a j h m o g = ends-link vt vs₀ ot same a j h m o g
 
   later : (k j : ℕ) (xs : List ℕ) → k ≤ j → EachN (λ y. y < 3 * k) xs → EachN (λ y. y < 3 * j) xs
   later k j xs m h = eachN-map (λ y. y < 3 * k) (λ y. y < 3 * j) (λ y a. omega arith) xs h
@@ -75,7 +70,6 @@ module _ (vt vs₀ ot : List ℕ) (same : length vs₀ ≡ length vt) where
           rows = h .rows .1;
           edges =
               edges-snoc (vertex vt) us rs nv (3 * k + 2) (h .edges) (rw previous-right (r .1)) (rw next-right (r .0));
-          bottom = below (3 * k + 1) (k + 1) (omega arith) (omega arith) (p .0) (A .0 .0);
           noted = h .noted;
           within = omega arith;
         }
@@ -93,7 +87,6 @@ module _ (vt vs₀ ot : List ℕ) (same : length vs₀ ≡ length vt) where
           loop = omega arith;
           rows = h .rows .1;
           edges = edges-last (vertex vt) us rs (omega arith) (h .edges) .0;
-          bottom = below (3 * k + 1) (k + 1) (omega arith) (omega arith) (p .0) (A .0 .0);
           noted = h .noted;
           within = omega arith;
         }
@@ -111,13 +104,12 @@ module _ (vt vs₀ ot : List ℕ) (same : length vs₀ ≡ length vt) where
           loop = omega arith;
           rows = h .rows .1;
           edges = edges-first (vertex vt) us rs (omega arith) (h .edges) .2;
-          bottom = below (3 * k + 2) (k + 1) (omega arith) (omega arith) (p .0) (A .0 .0);
           noted = h .noted;
           within = omega arith;
         }
 
-    pub tip-is-L : OnLoop (wL w) k nv us rs → tip L k nv ot (half (3 * k)) ≡ vertex vt (3 * k)
-    unfolding width size zips tip
+    pub tip-is-L : OnLoop (wL w) k nv us rs → beforeFacing ot (half (3 * k)) (3 * k + 2) ≡ vertex vt (3 * k)
+    unfolding width size zips
     tip-is-L h =
         let p = holds-L (opposite ot) k w rs (h .holds) in
         let A = agreed (wL w) k nv us rs h in
@@ -127,8 +119,8 @@ module _ (vt vs₀ ot : List ℕ) (same : length vs₀ ≡ length vt) where
         before-mix vt vs₀ ot same k (3 * k + 2) (back rs) (p .1 .0) y (omega arith)
         ∙ sym (rw next-right at (A .1 .0 .0))
 
-    pub tip-is-R : OnLoop (wR w) k nv us rs → tip R k nv ot (half (3 * k)) ≡ vertex vt (3 * k)
-    unfolding width size zips tip
+    pub tip-is-R : OnLoop (wR w) k nv us rs → afterFacing ot (half (3 * k)) (3 * k + 1) ≡ vertex vt (3 * k)
+    unfolding width size zips
     tip-is-R h =
         let p = holds-R (opposite ot) k w rs (h .holds) in
         let A = agreed (wR w) k nv us rs h in
@@ -138,8 +130,9 @@ module _ (vt vs₀ ot : List ℕ) (same : length vs₀ ≡ length vt) where
         after-mix vt vs₀ ot same k (3 * k + 1) (head rs) (p .1 .0) y (omega arith)
         ∙ sym (rw previous-left at (A .1 .0 .1))
 
-  pub tip-is-E : (k nv : ℕ) (us rs : List ℕ) → OnLoop wE k nv us rs → tip E k nv ot (half (3 * k)) ≡ vertex vt (3 * k)
-  unfolding width size zips tip
+  pub tip-is-E : (k nv : ℕ) (us rs : List ℕ) → OnLoop wE k nv us rs
+      → afterFacing ot (half (3 * k)) (3 * k + 1) ≡ vertex vt (3 * k)
+  unfolding width size zips
   tip-is-E k nv us rs h =
       let p = holds-E (opposite ot) k rs (h .holds) in
       let A = agreed wE k nv us rs h in
@@ -176,7 +169,6 @@ module _ (vt vs₀ ot : List ℕ) (same : length vs₀ ≡ length vt) where
           loop = length-take-le (width a) us (omega arith);
           rows = h .rows .1;
           edges = edges-right;
-          bottom = below (3 * k + 1) (k + 1) (omega arith) (omega arith) (p .0) (A .0 .0);
           noted = h .noted .1;
           within = omega arith;
         }
@@ -196,13 +188,22 @@ module _ (vt vs₀ ot : List ℕ) (same : length vs₀ ≡ length vt) where
           loop = omega arith;
           rows = h .rows .2;
           edges = edges-drop (vertex vt) (width a - 1) us rs (omega arith) (h .edges);
-          bottom = below (3 * k + 2) m (omega arith) (omega arith) (p .1) (A .0 .1 .0);
           noted = h .noted .2;
           within = omega arith;
         }
 
-    pub tip-is-S : tip S k nv ot (half (3 * k)) ≡ vertex vt (3 * k)
-    unfolding size tip
+    -- the left branch is resumed where the S waits
+    pub left-resumed : (n : ℕ) → resumed (k + 1 + size a) ot (half (3 * (k + 1 + size a))) n
+        ≡ here vt vs₀ ot same (k + 1 + size a) n
+    unfolding size links
+    left-resumed n =
+        let p = holds-S (opposite ot) k a b rs (h .holds) in
+        let A = agreed (wS a b) k nv us rs h in
+        let within = h .within in
+        resumed-here vt vs₀ ot same (3 * k + 2) (k + 1 + size a) n (omega arith) (omega arith) (p .1) (A .0 .1 .0)
+
+    pub tip-is-S : afterFacing ot (half (3 * k)) (getD ns k 0) ≡ vertex vt (3 * k)
+    unfolding size
     tip-is-S =
         let s = widths-are in
         let right = behind-right in
@@ -217,6 +218,6 @@ module _ (vt vs₀ ot : List ℕ) (same : length vs₀ ≡ length vt) where
         let earlier = each-take (λ y. y < 3 * k) (width a - 1) rs (h .earlier) in
         let y = each-back (λ y. y < 3 * k) ra (omega arith) earlier in
         let f = edges-last (vertex vt) ua ra (omega (arith, right .loop)) edges-right in
-        ap (afterFacing ot (half (3 * k))) (mix-at vt vs₀ ot same (3 * k) (omega arith) ∙ h .noted .0)
+        ap (afterFacing ot (half (3 * k))) (h .noted .0)
         ∙ after-mix vt vs₀ ot same k (back (opens (k + 1) a)) (back ra) op y (omega arith)
         ∙ f .2 ∙ rw (s .3) at tip-at ∙ sym (h .rows .0 .0)

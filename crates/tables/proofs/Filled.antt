@@ -1,10 +1,10 @@
 -- A table of vertices filled from its front: up to corner i the vertices of vt, from there on what stood in vs₀.
 --
 --   mix i          that table
---   step-mix       one step with the right tip and the right ends fills one more triangle
 --   after-mix ..   a read through a facing corner that is filled already
---   Ends k         the ends of triangle k are read right
---   ends-link      so they are where its tip corner is joined to an earlier triangle
+--   here k nv      the machine before triangle k: the table up to there, and the ends of triangle k
+--   stored-mix ..  a triangle with the right tip; the machine continues at right, at left
+--   resumed-here   it resumes where a tip corner is joined to an earlier triangle
 use mathlib.Core.List.{List, _++_, append-nil}
 use mathlib.Core.Path.{_∙_, _≡_, ap, refl, sym}
 use Prim.Native.Nat.{_*_, _+_, _<_, _≤_, suc, ℕ}
@@ -12,14 +12,12 @@ use native.Mathlib.Numerals.{add-one}
 use native.Mathlib.Omega.{arith}
 use lib.ListN.{List·getD-append, drop, drop-of-length-le, getD, length, set, take}
 use lib.Seq.{append-snoc, drop-cons, getD-at, getD-take, length-take-le, set-at, take-length, take-suc}
-use borrow.Author.Tests.{ne-eqb}
-use Rattle.tables.specs.Fill.{afterFacing, beforeFacing, fillStep, leftEnd, rightEnd, row, tip}
-use Rattle.theory.proofs.CornerLaws.{next-low, next-tip, previous-low, previous-tip}
+use Rattle.tables.specs.Fill.{Fill, afterFacing, atLeft, atRight, beforeFacing, fillIn, resumed, row, stored}
+use Rattle.theory.proofs.CornerLaws.{next-left, next-low, next-right, next-tip, previous-left, previous-low, previous-right, previous-tip}
 use Rattle.theory.proofs.JoinLaws.{Join}
 use Rattle.theory.proofs.JoinedTables.{join-entry}
 use Rattle.theory.proofs.Rows.{Agree}
 use Rattle.theory.specs.Corner.{next, opposite, previous, vertex}
-use Rattle.theory.specs.declared.Letter.{Letter}
 
 module _ (vt vs₀ ot : List ℕ) (same : length vs₀ ≡ length vt) where
   unfoldable pub mix : ℕ → List ℕ
@@ -29,12 +27,6 @@ module _ (vt vs₀ ot : List ℕ) (same : length vs₀ ≡ length vt) where
   unfolding mix
   mix-low n i h m =
       List·getD-append (take n vt) (drop n vs₀) 0 i (rw (length-take-le n vt m) h) ∙ getD-take n vt i 0 h
-
-  pub mix-at : (n : ℕ) → n < length vt → getD (mix n) n 0 ≡ getD vs₀ n 0
-  unfolding mix
-  mix-at n h =
-      ap (λ (y : List ℕ). getD (take n vt ++ y) n 0) (drop-cons vs₀ n 0 (omega arith))
-      ∙ getD-at (take n vt) (getD vs₀ n 0) (drop (suc n) vs₀) 0 n (length-take-le n vt (omega arith))
 
   mix-set : (n : ℕ) → n < length vt → set (mix n) n (getD vt n 0) ≡ mix (n + 1)
   unfolding mix
@@ -63,14 +55,6 @@ module _ (vt vs₀ ot : List ℕ) (same : length vs₀ ≡ length vt) where
       ∙ ap (λ (y : List ℕ). set y (3 * k + 2) r) (mix-set (3 * k + 1) (omega arith) ∙ ap mix a)
       ∙ mix-set (3 * k + 2) (omega arith) ∙ ap mix b
 
-  abbrev pub Ends : ℕ → Type 0
-  Ends k = (leftEnd k ot (mix (3 * k)) ≡ vertex vt (3 * k + 1)) × (rightEnd k ot (mix (3 * k)) ≡ vertex vt (3 * k + 2))
-
-  pub step-mix : (a : Letter) (k nv : ℕ) → tip a k nv ot (mix (3 * k)) ≡ vertex vt (3 * k) → Ends k
-      → 3 * (k + 1) ≤ length vt → fillStep a k nv ot (mix (3 * k)) ≡ mix (3 * (k + 1))
-  unfolding fillStep
-  step-mix a k nv t i h = rw (t, i .0, i .1) (row-mix k h)
-
   module _ (k x y : ℕ) (j : Join (opposite ot) x y) (h : y < 3 * k) (m : 3 * k ≤ length vt) where
     pub after-mix : afterFacing ot (mix (3 * k)) x ≡ vertex vt (next y)
     unfolding afterFacing
@@ -80,12 +64,38 @@ module _ (vt vs₀ ot : List ℕ) (same : length vs₀ ≡ length vt) where
     unfolding beforeFacing
     before-mix = rw (join-entry ot x y j) (mix-low (3 * k) (previous y) (previous-low k y h) m)
 
-  pub ends-link : (a j : ℕ) → a < 3 * j → 3 * j ≤ length vt → Join (opposite ot) a (3 * j)
-      → Agree (vertex vt) a (3 * j) → Ends j
-  unfolding leftEnd rightEnd
-  ends-link a j h m o g =
+  -- the machine before triangle k
+  abbrev pub here : ℕ → ℕ → Fill
+  here k nv = fillIn (mix (3 * k)) (vertex vt (3 * k + 1)) (vertex vt (3 * k + 2)) nv
+
+  fill-same : (us us′ : List ℕ) (l l′ r r′ n : ℕ) → us ≡ us′ → l ≡ l′ → r ≡ r′ → fillIn us l r n ≡ fillIn us′ l′ r′ n
+  fill-same us us′ l l′ r r′ n p q e = rw (p, q, e) refl
+
+  module _ (k nv x : ℕ) (is : x ≡ vertex vt (3 * k)) (m : 3 * (k + 1) ≤ length vt) where
+    pub stored-mix : stored k x (here k nv) ≡ mix (3 * (k + 1))
+    unfolding fillIn
+    stored-mix = rw is (row-mix k m)
+
+    pub at-right : (n : ℕ) → Agree (vertex vt) (3 * k + 1) (3 * (k + 1)) → atRight k x n (here k nv) ≡ here (k + 1) n
+    unfolding atRight fillIn
+    at-right n g =
+        fill-same (stored k x (here k nv)) (mix (3 * (k + 1))) x (vertex vt (3 * (k + 1) + 1)) (vertex vt (3 * k + 2))
+        (vertex vt (3 * (k + 1) + 2)) n stored-mix (is ∙ rw (previous-left, next-tip) at (g .1))
+        (rw (next-left, previous-tip) at (g .0))
+
+    pub at-left : Agree (vertex vt) (3 * k + 2) (3 * (k + 1)) → atLeft k x (here k nv) ≡ here (k + 1) nv
+    unfolding atLeft fillIn
+    at-left g =
+        fill-same (stored k x (here k nv)) (mix (3 * (k + 1))) (vertex vt (3 * k + 1)) (vertex vt (3 * (k + 1) + 1)) x
+        (vertex vt (3 * (k + 1) + 2)) nv stored-mix (rw (previous-right, next-tip) at (g .1))
+        (is ∙ rw (next-right, previous-tip) at (g .0))
+
+  pub resumed-here : (a j n : ℕ) → a < 3 * j → 3 * j ≤ length vt → Join (opposite ot) a (3 * j)
+      → Agree (vertex vt) a (3 * j) → resumed j ot (mix (3 * j)) n ≡ here j n
+  unfolding resumed
+  resumed-here a j n h m o g =
       let round : Join (opposite ot) (3 * j) a = (o .1, o .0, λ q. o .2 (sym q)) in
-      rw (ne-eqb j 0 (λ q. omega arith)) (
-        before-mix j (3 * j) a round h m ∙ rw next-tip at (g .1),
-        after-mix j (3 * j) a round h m ∙ rw previous-tip at (g .0),
-      )
+      let us = mix (3 * j) in
+      fill-same us us (beforeFacing ot us (3 * j)) (vertex vt (3 * j + 1)) (afterFacing ot us (3 * j))
+      (vertex vt (3 * j + 2)) n refl (before-mix j (3 * j) a round h m ∙ rw next-tip at (g .1))
+      (after-mix j (3 * j) a round h m ∙ rw previous-tip at (g .0))

@@ -1,9 +1,9 @@
--- The second pass in the tables: a row, and the loop over the letters (`Filling`), its start, a turn and its end.
+-- The second pass in the tables: a letter, and the loop over the letters (`Filling`), its start, a turn and its end.
 --
 --   after-at before-at      two reads through a facing corner
---   tip-letter ..           by the letter that a byte stands for
---   left-first ..           the ends of a triangle, case by case
---   rowed                   three stores are a step
+--   fill-letter             by the letter that a byte stands for
+--   placed                  three stores are a row
+--   fills-C ..  resumes     the stores of each letter, and what follows a word
 use mathlib.Core.List.{List}
 use mathlib.Core.Path.{_∙_, _≡_, ap, refl, sym}
 use Prim.Native.Nat.{_*_, _+_, _<_, _≤_, suc, ℕ}
@@ -11,8 +11,7 @@ use native.Mathlib.Numerals.{add-one}
 use native.Mathlib.Omega.{arith}
 use lib.ListN.{drop, drop-of-length-le, getD, length, set}
 use lib.Seq.{drop-cons}
-use borrow.Author.Tests.{ne-eqb}
-use Rattle.tables.specs.Fill.{afterFacing, beforeFacing, fillRun, fillStep, fresh, leftEnd, rightEnd, row, tip}
+use Rattle.tables.specs.Fill.{Fill, afterFacing, atLeft, atRight, beforeFacing, fillIn, fillRun, fillStep, fillV, resumed, row, stored}
 use Rattle.theory.specs.Corner.{next, previous}
 use Rattle.theory.specs.Letter.{letter}
 use Rattle.theory.specs.declared.Letter.{Letter}
@@ -27,75 +26,82 @@ module _ (os vs : List ℕ) (c x y z : ℕ) (e : x ≡ getD os c 0) (g : z ≡ g
   unfolding beforeFacing
   before-at f = rw (← e, ← f) g
 
-pub tip-letter : {x : ℕ} (k n : ℕ) (os vs : List ℕ) (a b : Letter) → a ≡ b → x ≡ tip a k n os vs → x ≡ tip b k n os vs
-tip-letter k n os vs a b e h = rw (← e) h
+pub placed : (k x l r : ℕ) (vs vs₁ vs₂ vs₃ : List ℕ) → vs₁ ≡ set vs (3 * k) x → vs₂ ≡ set vs₁ (3 * k + 1) l
+    → vs₃ ≡ set vs₂ (3 * k + 2) r → vs₃ ≡ row k x l r vs
+unfolding row
+placed k x l r vs vs₁ vs₂ vs₃ e₁ e₂ e₃ = rw (← e₁, ← e₂) e₃
 
-pub tip-recorded : (k x y : ℕ) (os vs : List ℕ) → y ≡ getD vs (3 * k) 0 → x ≡ afterFacing os vs y
-    → x ≡ afterFacing os vs (getD vs (3 * k) 0)
-tip-recorded k x y os vs e h = rw (← e) h
+pub fill-letter : {y : Fill} (k : ℕ) (ns os : List ℕ) (z : Fill) (a b : Letter) → a ≡ b → y ≡ fillStep a k ns os z
+    → y ≡ fillStep b k ns os z
+fill-letter k ns os z a b e h = rw (← e) h
 
-pub fresh-letter : {x : ℕ} (n : ℕ) (a b : Letter) → a ≡ b → x ≡ fresh a n → x ≡ fresh b n
-fresh-letter n a b e h = rw (← e) h
+pub resumes : (j l r n : ℕ) (os vs : List ℕ) → l ≡ beforeFacing os vs (3 * j) → r ≡ afterFacing os vs (3 * j)
+    → fillIn vs l r n ≡ resumed j os vs n
+unfolding resumed
+resumes j l r n os vs e f = rw (e, f) refl
 
-module _ (a : Letter) (k n : ℕ) (os vs : List ℕ) where
-  pub rowed : (x l r : ℕ) (vs₁ vs₂ vs₃ : List ℕ) → x ≡ tip a k n os vs → l ≡ leftEnd k os vs → r ≡ rightEnd k os vs
-      → vs₁ ≡ set vs (3 * k) x → vs₂ ≡ set vs₁ (3 * k + 1) l → vs₃ ≡ set vs₂ (3 * k + 2) r → vs₃ ≡ fillStep a k n os vs
-  unfolding fillStep row
-  rowed x l r vs₁ vs₂ vs₃ ex el er e₁ e₂ e₃ = rw (← ex, ← el, ← er, ← e₁, ← e₂) e₃
+module _ (k l r n : ℕ) (ns os vs vs′ : List ℕ) where
+  pub fills-C : vs′ ≡ row k n l r vs → fillIn vs′ n r (n + 1) ≡ fillStep C k ns os (fillIn vs l r n)
+  unfolding fillStep atRight fillIn
+  fills-C e = rw e refl
 
-module _ (k : ℕ) (os vs : List ℕ) where
-  pub left-first : k ≡ 0 → 0 ≡ leftEnd k os vs
-  unfolding leftEnd
-  left-first e = rw e refl
+  pub fills-L : (x : ℕ) → x ≡ beforeFacing os vs (3 * k + 2) → vs′ ≡ row k x l r vs
+      → fillIn vs′ x r n ≡ fillStep L k ns os (fillIn vs l r n)
+  unfolding fillStep atRight fillIn
+  fills-L x e f = rw (f, e) refl
 
-  pub left-later : (x : ℕ) → (k ≡ 0 → ⊥) → x ≡ beforeFacing os vs (3 * k) → x ≡ leftEnd k os vs
-  unfolding leftEnd
-  left-later x e f = rw (ne-eqb k 0 e) f
+  pub fills-R : (x : ℕ) → x ≡ afterFacing os vs (3 * k + 1) → vs′ ≡ row k x l r vs
+      → fillIn vs′ l x n ≡ fillStep R k ns os (fillIn vs l r n)
+  unfolding fillStep atLeft fillIn
+  fills-R x e f = rw (f, e) refl
 
-  pub right-first : k ≡ 0 → 1 ≡ rightEnd k os vs
-  unfolding rightEnd
-  right-first e = rw e refl
+  pub fills-S : (i x : ℕ) → i ≡ getD ns k 0 → x ≡ afterFacing os vs i → vs′ ≡ row k x l r vs
+      → fillIn vs′ x r n ≡ fillStep S k ns os (fillIn vs l r n)
+  unfolding fillStep atRight fillIn
+  fills-S i x d e f = rw (f, e, d) refl
 
-  pub right-later : (x : ℕ) → (k ≡ 0 → ⊥) → x ≡ afterFacing os vs (3 * k) → x ≡ rightEnd k os vs
-  unfolding rightEnd
-  right-later x e f = rw (ne-eqb k 0 e) f
+  pub fills-E : {y : Fill} (x : ℕ) → x ≡ afterFacing os vs (3 * k + 1) → vs′ ≡ row k x l r vs
+      → y ≡ resumed (k + 1) os vs′ n → y ≡ fillStep E k ns os (fillIn vs l r n)
+  unfolding fillStep fillIn
+  fills-E x e f g = g ∙ rw (f, e) refl
 
-fresh-le : (a : Letter) (n : ℕ) → fresh a n ≤ n + 1
-unfolding fresh
-fresh-le C n = omega arith
-fresh-le L n = omega arith
-fresh-le E n = omega arith
-fresh-le R n = omega arith
-fresh-le S n = omega arith
+new-low : (a : Letter) (k : ℕ) (ns os : List ℕ) (z : Fill) → fillStep a k ns os z .new ≤ z .new + 1
+unfolding fillStep atRight atLeft resumed fillIn
+new-low C k ns os z = omega arith
+new-low L k ns os z = omega arith
+new-low E k ns os z = omega arith
+new-low R k ns os z = omega arith
+new-low S k ns os z = omega arith
 
-pub record Filling (s os vs₀ vs : List ℕ) (n k : ℕ) : Type 0 where
+pub record Filling (s ns os vs₀ vs : List ℕ) (l r n k : ℕ) : Type 0 where
   pub at : k ≤ length s
   pub few : n ≤ k + 2
   pub len : length vs ≡ length vs₀
-  pub same : fillRun s 0 2 os vs₀ ≡ fillRun (drop k s) k n os vs
+  pub same : fillV s ns os vs₀ ≡ fillRun (drop k s) k ns os (fillIn vs l r n) .vs
 
-pub filling-start : (s os vs : List ℕ) → Filling s os vs vs 2 0
-filling-start s os vs = record { at = omega arith; few = omega arith; len = refl; same = refl }
+pub filling-start : (s ns os vs : List ℕ) → Filling s ns os vs vs 0 1 2 0
+unfolding fillV
+filling-start s ns os vs = record { at = omega arith; few = omega arith; len = refl; same = refl }
 
-module _ (s os vs₀ vs : List ℕ) (n k : ℕ) (inv : Filling s os vs₀ vs n k) where
-  pub filling-turn : k < length s → (vs′ : List ℕ) (n′ : ℕ) → length vs′ ≡ length vs
-      → vs′ ≡ fillStep (letter (getD s k 0)) k n os vs → n′ ≡ fresh (letter (getD s k 0)) n
-      → Filling s os vs₀ vs′ n′ (k + 1)
-  unfolding fillRun
-  filling-turn h vs′ n′ l e f =
+module _ (s ns os vs₀ vs : List ℕ) (l r n k : ℕ) (inv : Filling s ns os vs₀ vs l r n k) where
+  pub filling-turn : k < length s → (vs′ : List ℕ) (l′ r′ n′ : ℕ) → length vs′ ≡ length vs
+      → fillIn vs′ l′ r′ n′ ≡ fillStep (letter (getD s k 0)) k ns os (fillIn vs l r n)
+      → Filling s ns os vs₀ vs′ l′ r′ n′ (k + 1)
+  unfolding fillRun fillIn
+  filling-turn h vs′ l′ r′ n′ m e =
       let a = letter (getD s k 0) in
+      let z = fillIn vs l r n in
       record {
         at = omega arith;
-        few = omega (arith, inv .few, fresh-le (letter (getD s k 0)) n);
-        len = l ∙ inv .len;
+        few = omega (arith, inv .few, new-low (letter (getD s k 0)) k ns os (fillIn vs l r n), ap (λ (y : Fill). y .new) e);
+        len = m ∙ inv .len;
         same =
             inv .same
-            ∙ ap (λ (x : List ℕ). fillRun x k n os vs) (drop-cons s k 0 h)
-            ∙ ap (λ (m : ℕ). fillRun (drop (suc k) s) (k + 1) m os (fillStep a k n os vs)) (sym f)
-            ∙ ap (λ (x : List ℕ). fillRun (drop (suc k) s) (k + 1) n′ os x) (sym e)
-            ∙ ap (λ (m : ℕ). fillRun (drop m s) (k + 1) n′ os vs′) (sym (add-one k));
+            ∙ ap (λ (x : List ℕ). fillRun x k ns os z .vs) (drop-cons s k 0 h)
+            ∙ ap (λ (y : Fill). fillRun (drop (suc k) s) (k + 1) ns os y .vs) (sym e)
+            ∙ ap (λ (m : ℕ). fillRun (drop m s) (k + 1) ns os (fillIn vs′ l′ r′ n′) .vs) (sym (add-one k));
       }
 
-  pub filling-end : length s ≤ k → vs ≡ fillRun s 0 2 os vs₀
-  unfolding fillRun
+  pub filling-end : length s ≤ k → vs ≡ fillV s ns os vs₀
+  unfolding fillRun fillIn
   filling-end h = sym (inv .same ∙ rw (drop-of-length-le s {i = k} h) refl)

@@ -1,18 +1,14 @@
 -- What building the tables of a string asks and gives.
 --
---   Spread      the records of the S triangles stand where their tips will
 --   Buildable   the string is accepted, the first pass is done, and the tables are of the string's size
 --   Built       both tables are those of the string's word, whatever they held before
 use mathlib.Core.List.{List}
 use mathlib.Core.Path.{_≡_}
-use Prim.Native.Nat.{_*_, _+_, _<_, _≤_, ℕ}
-use lib.ListN.{getD, length}
+use Prim.Native.Nat.{_*_, _≤_, ℕ}
+use lib.ListN.{length}
 use Rattle.tables.specs.Fold.{Joined}
 use Rattle.theory.specs.Tables.{tableO, tableV}
 use Rattle.theory.specs.Word.{Closes, wordOf}
-
-pub record Spread (t : ℕ) (work vs : List ℕ) : Type 0 where
-  pub each : (k : ℕ) → k < t → getD vs (3 * k) 0 ≡ getD work (3 * t + k) 0
 
 pub record Buildable (s work vs os : List ℕ) : Type 0 where
   pub few : length s ≤ 65536

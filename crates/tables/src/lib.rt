@@ -8,9 +8,9 @@ ghost use Prim.Native.Nat.{ℕ, _+_, _-_, _*_, _<_, _≤_};
 ghost use lib.ListN.{length, set, take};
 ghost use Rattle.theory.specs.Letter.{letter};
 ghost use Rattle.theory.specs.Tables.{joinAt};
-ghost use Rattle.tables.specs.Built.{Buildable, Built, Spread};
+ghost use Rattle.tables.specs.Built.{Buildable, Built};
 ghost use Rattle.tables.specs.Fold.{Foldable, Folded, Room, foldC, foldE, foldIn, foldL, foldR, foldS, foldStep, pushed, stops};
-ghost use Rattle.tables.specs.Fill.{afterFacing, beforeFacing, tip, leftEnd, rightEnd, fillStep, fresh, fillRun};
+ghost use Rattle.tables.specs.Fill.{afterFacing, beforeFacing, fillIn, fillStep, fillV, resumed, row};
 use corner::next_of;
 use corner::previous_of;
 use lent::at;
@@ -23,6 +23,13 @@ pub struct Ends {
     pub first: u32,
     pub last: u32,
     pub top: usize,
+}
+
+// The ends of the next triangle, and the next new vertex.
+pub struct Sides {
+    pub left: u32,
+    pub right: u32,
+    pub new: u32,
 }
 
 fn join(work: &mut [u32], a: u32, b: u32)
@@ -209,78 +216,99 @@ fn before_facing(os: &[u32], vs: &[u32], i: usize) -> u32
     at(vs, previous_of(facing as usize))
 }
 
-fn tip(b: u8, k: usize, n: u32, os: &[u32], vs: &[u32]) -> u32
+// The three vertices of triangle k.
+fn place(k: usize, x: u32, l: u32, r: u32, vs: &mut [u32])
     requires { ⌜ k < 65536 ⌝ }
-    ensures { λ r. ⌜ r ≡ tip (letter b) k n (now (os .entry)) (now (vs .entry)) ⌝ }
+    ensures { λ _. ⌜ now (vs .exit) ≡ row k x l r (now (vs .entry)) ⌝ }
 {
-    match letter_of(b) {
-        Letter::C => n,
-        Letter::L => before_facing(os, vs, 3 * k + 2),
-        Letter::E => after_facing(os, vs, 3 * k + 1),
-        Letter::R => after_facing(os, vs, 3 * k + 1),
-        Letter::S => {
-            let recorded = at(vs, 3 * k);
-            after_facing(os, vs, recorded as usize)
-        }
-    }
-}
-
-fn left_end(k: usize, os: &[u32], vs: &[u32]) -> u32
-    requires { ⌜ k < 65536 ⌝ }
-    ensures { λ r. ⌜ r ≡ leftEnd k (now (os .entry)) (now (vs .entry)) ⌝ }
-{
-    if k == 0 {
-        return 0;
-    }
-    before_facing(os, vs, 3 * k)
-}
-
-fn right_end(k: usize, os: &[u32], vs: &[u32]) -> u32
-    requires { ⌜ k < 65536 ⌝ }
-    ensures { λ r. ⌜ r ≡ rightEnd k (now (os .entry)) (now (vs .entry)) ⌝ }
-{
-    if k == 0 {
-        return 1;
-    }
-    after_facing(os, vs, 3 * k)
-}
-
-// The three vertices of triangle k, whose letter is b; n is the next new vertex.
-fn row(b: u8, k: usize, n: u32, os: &[u32], vs: &mut [u32])
-    requires { ⌜ k < 65536 ⌝ }
-    ensures { λ _. ⌜ now (vs .exit) ≡ fillStep (letter b) k n (now (os .entry)) (now (vs .entry)) ⌝ }
-{
-    let x = tip(b, k, n, os, vs);
-    let l = left_end(k, os, vs);
-    let r = right_end(k, os, vs);
     put(vs, 3 * k, x);
     put(vs, 3 * k + 1, l);
     put(vs, 3 * k + 2, r);
 }
 
-fn fresh(b: u8, n: u32) -> u32
-    requires { ⌜ n < 1000000 ⌝ }
-    ensures { λ r. ⌜ r ≡ fresh (letter b) n ⌝ }
+// The next triangle stands where an S waits.
+fn resume(j: usize, new: u32, os: &[u32], vs: &[u32]) -> Sides
+    requires { ⌜ j ≤ 65536 ⌝ }
+    ensures { λ r. ⌜ fillIn (now (vs .entry)) (r .left) (r .right) (r .new) ≡ resumed j (now (os .entry)) (now (vs .entry)) new ⌝ }
+{
+    let left = before_facing(os, vs, 3 * j);
+    let right = after_facing(os, vs, 3 * j);
+    Sides { left, right, new }
+}
+
+// The letter b of triangle k, whose ends are left and right; new is the next new vertex.
+fn turn(
+    b: u8,
+    k: usize,
+    left: u32,
+    right: u32,
+    new: u32,
+    notes: &[u32],
+    os: &[u32],
+    vs: &mut [u32],
+) -> Sides
+    requires { ⌜ (k < 65536) × (new < 1000000) ⌝ }
+    ensures { λ r. ⌜ fillIn (now (vs .exit)) (r .left) (r .right) (r .new) ≡ fillStep (letter b) k (now (notes .entry)) (now (os .entry)) (fillIn (now (vs .entry)) left right new) ⌝ }
 {
     match letter_of(b) {
-        Letter::C => n + 1,
-        Letter::L => n,
-        Letter::E => n,
-        Letter::R => n,
-        Letter::S => n,
+        Letter::C => {
+            place(k, new, left, right, vs);
+            Sides {
+                left: new,
+                right,
+                new: new + 1,
+            }
+        }
+        Letter::L => {
+            let x = before_facing(os, vs, 3 * k + 2);
+            place(k, x, left, right, vs);
+            Sides {
+                left: x,
+                right,
+                new,
+            }
+        }
+        Letter::E => {
+            let x = after_facing(os, vs, 3 * k + 1);
+            place(k, x, left, right, vs);
+            resume(k + 1, new, os, vs)
+        }
+        Letter::R => {
+            let x = after_facing(os, vs, 3 * k + 1);
+            place(k, x, left, right, vs);
+            Sides {
+                left,
+                right: x,
+                new,
+            }
+        }
+        Letter::S => {
+            let side = at(notes, k);
+            let x = after_facing(os, vs, side as usize);
+            place(k, x, left, right, vs);
+            Sides {
+                left: x,
+                right,
+                new,
+            }
+        }
     }
 }
 
 // The vertices of all triangles.
-fn fill(s: &[u8], os: &[u32], vs: &mut [u32])
+fn fill(s: &[u8], notes: &[u32], os: &[u32], vs: &mut [u32])
     requires { ⌜ length (now s) ≤ 65536 ⌝ }
-    ensures { λ _. ⌜ now (vs .exit) ≡ fillRun (now (s .entry)) 0 2 (now (os .entry)) (now (vs .entry)) ⌝ }
+    ensures { λ _. ⌜ now (vs .exit) ≡ fillV (now (s .entry)) (now (notes .entry)) (now (os .entry)) (now (vs .entry)) ⌝ }
 {
-    let mut n = 2;
+    let mut left = 0;
+    let mut right = 1;
+    let mut new = 2;
     let mut k = 0;
     while k < s.len() {
-        row(s[k], k, n, os, vs);
-        n = fresh(s[k], n);
+        let sides = turn(s[k], k, left, right, new, notes, os, vs);
+        left = sides.left;
+        right = sides.right;
+        new = sides.new;
         k += 1;
     }
 }
@@ -297,24 +325,12 @@ fn copy(work: &[u32], os: &mut [u32])
     }
 }
 
-// The records of the S triangles, where their tips will stand.
-fn spread(t: usize, work: &[u32], vs: &mut [u32])
-    requires { ⌜ (t ≤ 65536) × (4 * t ≤ length (now work)) × (3 * t ≤ length (now vs)) ⌝ }
-    ensures { λ _. ⌜ Spread t (now (work .entry)) (now (vs .exit)) ⌝ }
-{
-    let mut k = 0;
-    while k < t {
-        vs[3 * k] = work[3 * t + k];
-        k += 1;
-    }
-}
-
 // The tables of a string that closes, from what the first pass left in the work space.
 pub fn build(s: &[u8], work: &[u32], vs: &mut [u32], os: &mut [u32])
     requires { ⌜ Buildable (now s) (now work) (now vs) (now os) ⌝ }
     ensures { λ _. ⌜ Built (now (s .entry)) (now (vs .exit)) (now (os .exit)) ⌝ }
 {
     copy(work, os);
-    spread(s.len(), work, vs);
-    fill(s, os, vs);
+    let notes = 3 * s.len();
+    fill(s, &work[notes..], os, vs);
 }

@@ -1,4 +1,4 @@
--- `build` meets its contract: the neighbours and the records are carried over, then the vertices are filled in.
+-- `build` meets its contract: the neighbours are carried over, then the vertices are filled in.
 use Rattle.tables.proofs.Building.{built}
 use borrow.Author.Needs.{needs}
 use Rattle.tables.proofs.build.Statement.{statement}
@@ -7,8 +7,20 @@ use Rattle.tables.proofs.build.Tie as tie
 copy-requires : tie.Need-copy-requires
 copy-requires c κs = search needs
 
-spread-requires : tie.Need-spread-requires
-spread-requires c κs = search needs
+mul-notes : tie.Need-mul-notes
+mul-notes c = search needs
+
+mul-fill : tie.Need-mul-fill
+mul-fill c = search needs
+
+sub-fill : tie.Need-sub-fill
+sub-fill c = search needs
+
+part-fill-start : tie.Need-part-fill-start
+part-fill-start c = search needs
+
+part-fill-end : tie.Need-part-fill-end
+part-fill-end c = search needs
 
 fill-requires : tie.Need-fill-requires
 fill-requires c κs = search needs
@@ -22,13 +34,21 @@ same-length-2 c = search needs
 returns : tie.Need-returns
 returns c =
     let filled = c .before .before in
-    let spread = filled .before .before .before .before .before in
-    let copied = spread .before .before .before .before in
+    let copied = filled .before .before .before .before .before .before in
     let start = copied .before .before .before .before .before .before in
-    let kept = spread .spread .kept .1 .1 .0 in
-    built _ _ _ _ _ _ _ (start .pre) (copied .copy .ensures) kept (spread .spread .ensures) (filled .fill .ensures)
+    built _ _ _ _ _ _ (start .pre) (copied .copy .ensures) (filled .fill .ensures)
 
 pub build-spec : {M : Type 1} → statement M
 build-spec =
     tie.close
-    (tie.spec copy-requires spread-requires fill-requires same-length same-length-2 returns)
+    (tie.spec
+    copy-requires
+    mul-notes
+    mul-fill
+    sub-fill
+    part-fill-start
+    part-fill-end
+    fill-requires
+    same-length
+    same-length-2
+    returns)

@@ -1,32 +1,25 @@
--- `fill` meets its contract: k letters are filled, with n the next new vertex.
+-- `fill` meets its contract: k letters are filled in.
 use Prim.Native.Nat.{_-_}
 use lib.ListN.{length}
 use borrow.Author.Needs.{needs}
 use Rattle.tables.proofs.Filling.{Filling, filling-end, filling-start, filling-turn}
-use Rattle.tables.specs.Fill.{row}
 use Rattle.tables.proofs.fill.Statement.{statement}
 use Rattle.tables.proofs.fill.Tie as tie
 
 abbrev Inv-loop : tie.InvT-loop
-Inv-loop s os vs₀ n₀ k₀ vs n k = Filling s os vs₀ vs n k
+Inv-loop s notes os vs₀ left₀ right₀ new₀ k₀ vs left right new k = Filling s notes os vs₀ vs left right new k
 
 abbrev μ-loop : tie.MeasureT-loop
-μ-loop s os vs₀ n₀ k₀ vs n k = length s - k
+μ-loop s notes os vs₀ left₀ right₀ new₀ k₀ vs left right new k = length s - k
 
 loop-holds : tie.Need-loop-holds Inv-loop μ-loop
-loop-holds c = filling-start _ _ _
+loop-holds c = filling-start _ _ _ _
 
-shared-slice-read-row : tie.Need-shared-slice-read-row Inv-loop μ-loop
-shared-slice-read-row c = search needs
+shared-slice-read-turn : tie.Need-shared-slice-read-turn Inv-loop μ-loop
+shared-slice-read-turn c = search needs
 
-row-requires : tie.Need-row-requires Inv-loop μ-loop
-row-requires c κs = search needs
-
-shared-slice-read-fresh : tie.Need-shared-slice-read-fresh Inv-loop μ-loop
-shared-slice-read-fresh c = search needs
-
-fresh-requires : tie.Need-fresh-requires Inv-loop μ-loop
-fresh-requires c κs = search needs
+turn-requires : tie.Need-turn-requires Inv-loop μ-loop
+turn-requires c κs = search needs
 
 add-k : tie.Need-add-k Inv-loop μ-loop
 add-k c = search needs
@@ -36,16 +29,16 @@ loop-less c = search needs
 
 loop-again : tie.Need-loop-again Inv-loop μ-loop
 loop-again c =
-    let row = c .before .before .before .before in
-    let loop = row .before .before .before in
-    let kept = row .row .kept .1 .1 .1 .1 .0 in
-    filling-turn _ _ _ _ _ _ (loop .before .loop .inv) (loop .loop-test .taken) _ _ kept (row .row .ensures) (c .fresh .ensures)
+    let turn = c .before .before in
+    let loop = turn .before .before .before in
+    let kept = turn .turn .kept .1 .1 .1 .1 .1 .1 .1 .0 in
+    filling-turn _ _ _ _ _ _ _ _ _ (loop .before .loop .inv) (loop .loop-test .taken) _ _ _ _ kept (turn .turn .ensures)
 
 same-length : tie.Need-same-length Inv-loop μ-loop
 same-length c = search needs
 
 returns : tie.Need-returns Inv-loop μ-loop
-returns c = filling-end _ _ _ _ _ _ (c .before .loop .inv) (c .loop-test .left)
+returns c = filling-end _ _ _ _ _ _ _ _ _ (c .before .loop .inv) (c .loop-test .left)
 
 pub fill-spec : {M : Type 1} → statement M
 fill-spec =
@@ -54,10 +47,8 @@ fill-spec =
     Inv-loop
     μ-loop
     loop-holds
-    shared-slice-read-row
-    row-requires
-    shared-slice-read-fresh
-    fresh-requires
+    shared-slice-read-turn
+    turn-requires
     add-k
     loop-less
     loop-again
