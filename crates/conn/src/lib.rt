@@ -70,15 +70,15 @@ fn read_letters(letters: &[u8], vs: &mut [u32], os: &mut [u32], work: &mut [u32]
     requires { ⌜ ReadRoom (now letters) (now vs) (now os) (now work) ⌝ }
     ensures { λ r. ⌜ ReadLetters (now (letters .entry)) (now (vs .entry)) (now (os .entry)) (now (work .entry)) r (now (vs .exit)) (now (os .exit)) (now (work .exit)) ⌝ }
 {
-    let a = judge_letters(letters, work);
-    if a.number != 0 {
+    let judged = judge_letters(letters, work);
+    if judged.number != 0 {
         clear(work);
-        return a;
+        return judged;
     }
     let n = 3 * letters.len();
     build(letters, &mut vs[..n], &mut os[..n], work);
     clear(work);
-    a
+    judged
 }
 
 // Judges the tables of a mesh with v vertices from the gate corner. Numbers 1, 2, 8 to 15.
@@ -131,12 +131,12 @@ fn write_letters(
     requires { ⌜ WriteRoom (now vs) (now os) (now letters) (now walk) (now work) ⌝ }
     ensures { λ r. ⌜ WriteLetters (now (vs .entry)) (now (os .entry)) v gate (now (letters .entry)) (now (walk .entry)) (now (work .entry)) r (now (letters .exit)) (now (walk .exit)) (now (work .exit)) ⌝ }
 {
-    let a = judge_mesh(vs, os, v, gate, work);
+    let judged = judge_mesh(vs, os, v, gate, work);
     clear(work);
-    if a.number != 0 {
-        return a;
+    if judged.number != 0 {
+        return judged;
     }
     trace(vs, os, v, gate, letters, walk, work);
     clear(work);
-    a
+    judged
 }
