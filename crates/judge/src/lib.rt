@@ -1,5 +1,6 @@
-// Judging the letters of a string (document 01, "Numbers of an answer", 3 to 7): forward for the first byte that is no
-// letter, forward for the end of the first word, and from the right with a stack of widths, which is work from p on.
+// Judging the letters of a string (document 01, "Numbers of an answer", 3 to 7). One pass from the right says whether
+// they close (closing). Where they do not: forward for the first byte that is no letter, forward for the end of the
+// first word, and from the right with a stack of widths, which is work from p on.
 ghost use mathlib.Core.Path.{_≡_};
 ghost use mathlib.Core.Bool.{_&&_};
 ghost use mathlib.Core.List.{List};
@@ -12,6 +13,10 @@ ghost use Rattle.theory.specs.Letter.{byte, letter, isLetter};
 ghost use Rattle.theory.specs.Judge.{wanted, wordsEnd, letterRungs, stringDone, letterAnswer};
 ghost use Rattle.theory.specs.declared.Letter.the-variants as Letter;
 ghost use Rattle.judge.specs.Widths.{widthsBefore, total, Wide, Ready, Stepped};
+
+mod closing;
+
+use closing::closes;
 use theory::Answer;
 use theory::Letter;
 
@@ -153,6 +158,9 @@ pub fn judge_letters(s: &[u8], work: &mut [u32]) -> Answer
     ensures { λ r. ⌜ r ≡ letterAnswer (now (s .entry)) ⌝ }
 {
     let t = s.len();
+    if closes(s, work) {
+        return lent::accept(t as u32, (t / 2 + 2) as u32);
+    }
     let foreign = first_foreign(s);
     if foreign < t {
         return lent::refuse(3, foreign as u32);
