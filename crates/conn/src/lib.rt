@@ -73,9 +73,9 @@ fn read_letters(letters: &[u8], vs: &mut [u32], os: &mut [u32], work: &mut [u32]
     ensures { λ r. ⌜ ReadLetters (now (letters .entry)) (now (vs .entry)) (now (os .entry)) (now (work .entry)) r (now (vs .exit)) (now (os .exit)) (now (work .exit)) ⌝ }
 {
     if !fold(letters, work) {
-        let a = judge_letters(letters, work);
+        let judged = judge_letters(letters, work);
         clear(work);
-        return a;
+        return judged;
     }
     let t = letters.len();
     let n = 3 * t;

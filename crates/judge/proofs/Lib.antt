@@ -2,5 +2,7 @@
 pub mod WidthLaws
 pub mod Stores
 pub mod Forward
+pub mod Turns
 pub mod Passes
-pub mod Parses
+pub mod Folds
+pub mod Folding

@@ -1,5 +1,6 @@
-// Judging the letters of a string (document 01, "Numbers of an answer", 3 to 7): forward for the first byte that is no
-// letter, forward for the end of the first word, and from the right with a stack of widths, which is work from p on.
+// Judging the letters of a string (document 01, "Numbers of an answer", 3 to 7). One pass from the right says whether
+// they close (closing). Where they do not: forward for the first byte that is no letter, forward for the end of the
+// first word, and from the right with a stack of widths, which is work from p on.
 ghost use mathlib.Core.Path.{_≡_};
 ghost use mathlib.Core.Bool.{_&&_};
 ghost use mathlib.Core.List.{List};
@@ -11,8 +12,11 @@ ghost use Rattle.theory.specs.Answer.{firstBroken};
 ghost use Rattle.theory.specs.Letter.{byte, letter, isLetter};
 ghost use Rattle.theory.specs.Judge.{wanted, wordsEnd, letterRungs, stringDone, letterAnswer};
 ghost use Rattle.theory.specs.declared.Letter.the-variants as Letter;
-ghost use Rattle.judge.specs.Parsed.{Parsed};
 ghost use Rattle.judge.specs.Widths.{widthsBefore, total, Wide, Ready, Stepped};
+
+mod closing;
+
+use closing::closes;
 use theory::Answer;
 use theory::Letter;
 
@@ -148,12 +152,15 @@ fn judge_widths(s: &[u8], work: &mut [u32]) -> Answer
     lent::accept(t as u32, (t / 2 + 2) as u32)
 }
 
-// Numbers 3 to 5, or number 0 for exactly one word.
-pub fn judge_words(s: &[u8]) -> Answer
-    requires { ⌜ length (now s) ≤ 65536 ⌝ }
-    ensures { λ r. ⌜ Parsed (now (s .entry)) r ⌝ }
+// Numbers 3 to 7. Every length of work from that of s on will do; what is left in it is of no meaning.
+pub fn judge_letters(s: &[u8], work: &mut [u32]) -> Answer
+    requires { ⌜ (length (now s) ≤ 65536) × (length (now s) ≤ length (now work)) ⌝ }
+    ensures { λ r. ⌜ r ≡ letterAnswer (now (s .entry)) ⌝ }
 {
     let t = s.len();
+    if closes(s, work) {
+        return lent::accept(t as u32, (t / 2 + 2) as u32);
+    }
     let foreign = first_foreign(s);
     if foreign < t {
         return lent::refuse(3, foreign as u32);
@@ -164,18 +171,6 @@ pub fn judge_words(s: &[u8]) -> Answer
     }
     if end < t {
         return lent::refuse(5, end as u32);
-    }
-    lent::accept(0, 0)
-}
-
-// Numbers 3 to 7. Every length of work from that of s on will do; what is left in it is of no meaning.
-pub fn judge_letters(s: &[u8], work: &mut [u32]) -> Answer
-    requires { ⌜ (length (now s) ≤ 65536) × (length (now s) ≤ length (now work)) ⌝ }
-    ensures { λ r. ⌜ r ≡ letterAnswer (now (s .entry)) ⌝ }
-{
-    let parsed = judge_words(s);
-    if parsed.number != 0 {
-        return parsed;
     }
     judge_widths(s, work)
 }

@@ -4,9 +4,10 @@
 //     rise           some Cs, then Rs, then E
 //     nines          a table before a call: 999,999,999 is neither a vertex nor a corner
 //     entries        how many entries of a table are x
-//     same equal     1 where two numbers, two strings are equal, else 0
+//     same equal alike   1 where two numbers, two strings, two tables are equal, else 0
+//     at store       an entry of a table, 999,999,999 beyond it; a change of one, none beyond it
 //     plus           a sum of counts
-//     show space     prints an answer; what is in a work space
+//     number show space  prints a number behind its name; an answer; what is in a work space
 ghost use Prim.Native.Nat.{_≤_};
 use theory::Answer;
 
@@ -107,6 +108,38 @@ pub fn equal(a: &[u8], b: &[u8]) -> u64 {
     1
 }
 
+pub fn alike(a: &[u32], b: &[u32]) -> u64 {
+    if a.len() != b.len() {
+        return 0;
+    }
+    let mut i = 0;
+    while i < a.len() {
+        if b.len() <= i {
+            return 0;
+        }
+        if a[i] != b[i] {
+            return 0;
+        }
+        i += 1;
+    }
+    1
+}
+
+pub fn at(tab: &[u32], i: u32) -> u32 {
+    let k = i as usize;
+    if k < tab.len() {
+        return tab[k];
+    }
+    999999999
+}
+
+pub fn store(tab: &mut [u32], i: u32, x: u32) {
+    let k = i as usize;
+    if k < tab.len() {
+        tab[k] = x;
+    }
+}
+
 // The counts of the programs are far below the bound.
 pub fn plus(a: u64, b: u64) -> u64 {
     if 1000000000 < a {
@@ -118,21 +151,20 @@ pub fn plus(a: u64, b: u64) -> u64 {
     a + b
 }
 
+pub fn number(name: &[u8], x: u64) {
+    io::write_all(1, name);
+    io::print_decimal(1, x);
+}
+
 pub fn show(a: Answer) {
-    io::write_all(1, b" number=");
-    io::print_decimal(1, a.number as u64);
-    io::write_all(1, b" place=");
-    io::print_decimal(1, a.place as u64);
-    io::write_all(1, b" t=");
-    io::print_decimal(1, a.t as u64);
-    io::write_all(1, b" v=");
-    io::print_decimal(1, a.v as u64);
+    number(b" number=", a.number as u64);
+    number(b" place=", a.place as u64);
+    number(b" t=", a.t as u64);
+    number(b" v=", a.v as u64);
 }
 
 pub fn space(work: &[u32]) {
-    io::write_all(1, b" work kept=");
-    io::print_decimal(1, entries(work, 999999999));
-    io::write_all(1, b" zero=");
-    io::print_decimal(1, entries(work, 0));
+    number(b" work kept=", entries(work, 999999999));
+    number(b" zero=", entries(work, 0));
     io::write_all(1, b"\n");
 }
