@@ -13,7 +13,7 @@ use mathlib.Core.Path.{_∙_, _≡_, ap, sym}
 use Prim.Native.Nat.{_*_, _/_, _≤_, suc, ℕ}
 use native.Mathlib.Omega.{arith}
 use lib.Dec.{leb}
-use lib.ListN.{drop, length, length-replicate, replicate}
+use lib.ListN.{drop, length, replicate}
 use borrow.Author.Tests.{le-leb, leb-true}
 use Rattle.conn.specs.Inner.{ReadLetters, ReadRoom, WriteLetters, WriteRoom}
 use Rattle.sweep.specs.Judged.{Judges as SweepJudges}
@@ -21,13 +21,12 @@ use Rattle.tables.specs.Built.{Built}
 use Rattle.theory.proofs.AnswerLaws.{count-few}
 use Rattle.theory.proofs.Closing.{answer-closes, closes-answer}
 use Rattle.theory.proofs.CallLaws.{Later, Outcome, cleared-later, filled-done, filled-refused, later-mesh, later-string, sized-rest, went-on}
-use Rattle.theory.proofs.Neighbours.{later}
 use Rattle.theory.proofs.TestLaws.{and-left, and-right}
 use Rattle.theory.specs.Answer.{countOk, done, firstBroken, refused}
 use Rattle.theory.specs.Calls.{Checks, Judges, Reads, Writes, checkAnswer, judgeAnswer, readAnswer, writeAnswer}
 use Rattle.theory.specs.Judge.{letterAnswer, letterRungs, stringAnswer, stringDone}
 use Rattle.theory.specs.Mesh.{meshAnswer, meshRungs, shapeOk}
-use Rattle.theory.specs.Tables.{tableO, tableV, vertices}
+use Rattle.theory.specs.Tables.{tableO, tableV}
 use Rattle.theory.specs.Walk.{cornersOf, lettersOf, meshWalk, walk}
 use Rattle.theory.specs.Word.{Closes, wordOf}
 use Rattle.theory.specs.declared.Answer.{Answer}
@@ -63,7 +62,8 @@ module _ {s work work′ : List ℕ} {a : Answer} where
 -- ---- read_string
 
 abbrev pub readFits : List ℕ → List ℕ → List ℕ → List ℕ → Bool
-readFits s vs os work = leb (3 * length s) (length vs) && (leb (3 * length s) (length os) && leb (12 * length s) (length work))
+readFits s vs os work =
+    leb (3 * length s) (length vs) && (leb (3 * length s) (length os) && leb (12 * length s) (length work))
 
 module _ {s vs os work : List ℕ} {a : Answer} where
   pub reads-kept :
@@ -92,7 +92,8 @@ module _ {s vs os work : List ℕ} {a : Answer} where
         space = r .space ∙ sym (cleared-later a work later);
       }
 
-pub read-room : {s vs os work : List ℕ} → countOk (length s) ≡ true → readFits s vs os work ≡ true → ReadRoom s vs os work
+pub read-room : {s vs os work : List ℕ} → countOk (length s) ≡ true → readFits s vs os work ≡ true
+    → ReadRoom s vs os work
 read-room {s} {vs} {os} {work} ok fits =
     let r = all-enough (3 * length s) (length vs) (3 * length s) (length os) (12 * length s) (length work) fits in
     let c = count-few (length s) ok in
@@ -143,12 +144,14 @@ module _ {vs os work work′ : List ℕ} {v g : ℕ} {a : Answer} where
 
 abbrev pub writeFits : List ℕ → List ℕ → List ℕ → List ℕ → Bool
 writeFits vs letters walk work =
-    leb (length vs / 3) (length letters) && (leb (length vs / 3) (length walk) && leb (12 * (length vs / 3)) (length work))
+    leb (length vs / 3) (length letters) && (leb (length vs / 3) (length walk) && leb (12 * (length vs / 3))
+    (length work))
 
 module _ {vs os letters walk work : List ℕ} {v g : ℕ} {a : Answer} where
   pub writes-kept :
       {work′ : List ℕ}
-      → Outcome (shapeOk vs os) (writeFits vs letters walk work) (meshRungs vs os v g) (done (length vs / 3) v) work a work′
+      → Outcome (shapeOk vs os) (writeFits vs letters walk work) (meshRungs vs os v g) (done (length vs / 3) v)
+      work a work′
       → a .number ≢ 0 → Writes vs os v g letters walk work a letters walk work′
   unfolding writeAnswer meshAnswer
   writes-kept o h =
@@ -205,7 +208,8 @@ module _ {vs os letters walk work work′ : List ℕ} {v g : ℕ} {a : Answer} w
       record {
         answer = e .answer;
         string =
-            r .said ∙ ap (λ (y : List ℕ). y ++ drop (length y) letters) ls ∙ sym (filled-done a (lettersOf q) letters h);
+            r .said ∙ ap (λ (y : List ℕ). y ++ drop (length y) letters) ls ∙ sym
+            (filled-done a (lettersOf q) letters h);
         table = r .went ∙ ap (λ (y : List ℕ). y ++ drop (length y) walk) cs ∙ sym (filled-done a (cornersOf q) walk h);
         space = z;
       }

@@ -35,7 +35,8 @@ pub record WriteRoom (vs os letters walk work : List ℕ) : Type 0 where
   pub table : length vs / 3 ≤ length walk
   pub room : 12 * (length vs / 3) ≤ length work
 
-pub record WriteLetters (vs os : List ℕ) (v g : ℕ) (letters walk work : List ℕ) (a : Answer) (letters′ walk′ work′ : List ℕ) : Type 0 where
+pub record WriteLetters (vs os : List ℕ) (v g : ℕ) (letters walk work : List ℕ) (a : Answer)
+    (letters′ walk′ work′ : List ℕ) : Type 0 where
   pub answer : a ≡ firstBroken (meshRungs vs os v g) (done (length vs / 3) v)
   pub string : letters′ ≡ filled a (lettersOf (meshWalk vs os g)) letters
   pub table : walk′ ≡ filled a (cornersOf (meshWalk vs os g)) walk

@@ -38,11 +38,17 @@ reads-carried {s} {vs} {os} {work} {vs′} {os′} {work′} b p =
 pub opens-carried : {text vs os work vs′ os′ work′ : List ℕ} {a : Opened} {r : Reply}
     → WithGate a r → Opens text vs os work a vs′ os′ work′
     → WithGate (openedIn r) r × Opens text vs os work (openedIn r) vs′ os′ work′
-opens-carried {text} {vs} {os} {work} {vs′} {os′} {work′} b p =
-    (record { answer = refl; length = b .length }, subst (λ (a : Opened). Opens text vs os work a vs′ os′ work′) (sym (b .answer)) p)
+opens-carried {text} {vs} {os} {work} {vs′} {os′} {work′} b p = (
+  record { answer = refl; length = b .length },
+  subst (λ (a : Opened). Opens text vs os work a vs′ os′ work′)
+      (sym (b .answer)) p,
+)
 
 pub packs-carried : {s text work text′ work′ : List ℕ} {g : ℕ} {a : Packed} {r : Reply}
     → WithLength a r → Packs s g text work a text′ work′
     → WithLength (packedIn r) r × Packs s g text work (packedIn r) text′ work′
-packs-carried {s} {text} {work} {text′} {work′} {g} b p =
-    (record { answer = refl; gate = b .gate }, subst (λ (a : Packed). Packs s g text work a text′ work′) (sym (b .answer)) p)
+packs-carried {s} {text} {work} {text′} {work′} {g} b p = (
+  record { answer = refl; gate = b .gate },
+  subst (λ (a : Packed). Packs s g text work a text′ work′)
+      (sym (b .answer)) p,
+)

@@ -1,6 +1,7 @@
 -- How the reply of a call carries the answer of the call behind it.
 --
---   answerIn openedIn packedIn     the answer that a reply holds: of a mesh or string, of reading and of writing a record
+--   answerIn openedIn packedIn     the answer that a reply holds: of a mesh or string, of reading and of writing a
+--                                  record
 --   Bare a r           r carries the answer a, and neither gate nor length
 --   WithGate a r       r carries the answer a of reading a record, and no length
 --   WithLength a r     r carries the answer a of writing a record, and no gate

@@ -13,8 +13,9 @@ use lib.Dec.{eqb}
 use lib.ListN.{drop, getD, length, length-drop}
 use lib.Seq.{drop-cons, drop-length}
 use borrow.Author.Tests.{eq-eqb, ne-eqb}
-use Rattle.judge.proofs.WidthLaws.{before-length, before-total, before-wide, letter-new, two-first, widths, widths-before}
+use Rattle.judge.proofs.WidthLaws.{before-length, before-total, before-wide, two-first, widths, widths-before}
 use Rattle.judge.specs.Widths.{Ready, Stepped, Wide, total, widthsBefore}
+use Rattle.theory.proofs.LetterLaws.{letter-new}
 use Rattle.theory.proofs.GreatestLaws.{Above, down-end, down-stop, down-turn}
 use Rattle.theory.proofs.JudgeLaws.{breaks-seven, breaks-six, seven-passed}
 use Rattle.theory.proofs.TestLaws.{and-rest}

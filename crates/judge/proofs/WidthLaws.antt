@@ -2,10 +2,9 @@
 --
 --   widths ws, widths-before    the widths of some words, and of a letter before them
 --   two-first                   whether the first word has width 2
---   letter-new                  a byte read as C is C
 --   before-wide before-total before-length    a letter keeps a stack wide unless a C stands before width 2, and adds at
 --                               most 3 to its sum and one to its length
-use mathlib.Core.Bool.{Bool, cond, false, true}
+use mathlib.Core.Bool.{false}
 use mathlib.Core.List.{List, [], _∷_}
 use mathlib.Core.Path.{_≡_, refl}
 use Prim.Native.Nat.{_+_, _≤_, ℕ}
@@ -14,7 +13,6 @@ use lib.Dec.{eqb}
 use lib.ListN.{length}
 use borrow.Author.Tests.{eqb-false}
 use Rattle.judge.specs.Widths.{Wide, total, widthsBefore}
-use Rattle.theory.specs.Letter.{byte, letter}
 use Rattle.theory.specs.Lists.{head}
 use Rattle.theory.specs.Word.{Word, before, firstWord, width}
 use Rattle.theory.specs.declared.Letter.{Letter}
@@ -41,17 +39,6 @@ pub two-first : (ws : List Word) → eqb (head (widths ws)) 2 ≡ eqb (width (fi
 unfolding head firstWord width
 two-first [] = refl
 two-first (w ∷ ws) = refl
-
-pub letter-new : (b : ℕ) → letter b ≡ C → eqb b (byte C) ≡ true
-unfolding letter
-letter-new b e = go (eqb b 67) (eqb b 76) (eqb b 69) (eqb b 82) e
-  where
-    go : (p q r t : Bool) → cond p C (cond q L (cond r E (cond t R S))) ≡ C → p ≡ true
-    go true q r t e = refl
-    go false true r t e = absurd (let z : _≡_ {A = ℕ} 0 1 = cc in omega arith)
-    go false false true t e = absurd (let z : _≡_ {A = ℕ} 0 1 = cc in omega arith)
-    go false false false true e = absurd (let z : _≡_ {A = ℕ} 0 1 = cc in omega arith)
-    go false false false false e = absurd (let z : _≡_ {A = ℕ} 0 1 = cc in omega arith)
 
 pub before-wide : (a : Letter) (st : List ℕ) → (a ≡ C → eqb (head st) 2 ≡ false) → Wide st → Wide (widthsBefore a st)
 unfolding widthsBefore head

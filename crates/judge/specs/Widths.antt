@@ -4,7 +4,8 @@
 --   total st            their sum
 --   Wide st             each of them is 2 or more
 --   Ready p work        the stack that is work from p on can take a letter
---   Stepped a work p work′ r    work′ from r on is the stack that was work from p on, with the letter a before its words
+--   Stepped a work p work′ r    work′ from r on is the stack that was work from p on, with the letter a before its
+--                               words
 use mathlib.Core.List.{List, [], _∷_}
 use mathlib.Core.Path.{_≡_}
 use Prim.Native.Nat.{_+_, _-_, _<_, _≤_, ℕ}

@@ -85,13 +85,21 @@ module _ (vs : List ℕ) (k : ℕ) where
     pub twice-second : vertex vs (3 * k + 1) ≡ vertex vs (3 * k + 2) → false ≡ apartAt vs k
     unfolding apartAt
     twice-second e =
-        rw (ne-eqb (vertex vs (3 * k)) (vertex vs (3 * k + 1)) n, eq-eqb (vertex vs (3 * k + 1)) (vertex vs (3 * k + 2)) e)
+        rw (
+          ne-eqb (vertex vs (3 * k)) (vertex vs (3 * k + 1)) n,
+          eq-eqb (vertex vs (3 * k + 1)) (vertex vs (3 * k + 2))
+              e,
+        )
 
     pub twice-third : vertex vs (3 * k + 1) ≢ vertex vs (3 * k + 2)
         → not (eqb (vertex vs (3 * k + 2)) (vertex vs (3 * k))) ≡ apartAt vs k
     unfolding apartAt
     twice-third m =
-        rw (ne-eqb (vertex vs (3 * k)) (vertex vs (3 * k + 1)) n, ne-eqb (vertex vs (3 * k + 1)) (vertex vs (3 * k + 2)) m)
+        rw (
+          ne-eqb (vertex vs (3 * k)) (vertex vs (3 * k + 1)) n,
+          ne-eqb (vertex vs (3 * k + 1)) (vertex vs (3 * k + 2))
+              m,
+        )
 
 pub mark-off : (l : List ℕ) (k : ℕ) → getD l k 0 ≡ 0 → marked l k ≡ false
 mark-off l k e = rw (eq-eqb (getD l k 0) 0 e)

@@ -1,4 +1,5 @@
--- The answer, check by check, as the code finds it: a check that is broken is the answer, a check that is passed is left.
+-- The answer, check by check, as the code finds it: a check that is broken is the answer, a check that is passed is
+-- left.
 --
 --   gate-stops .. doubled-stops, later-left     numbers 8 to 12, and what is left to the others
 --   ring-stops unreached-stops euler-stops all-passed     numbers 13 to 15
@@ -78,7 +79,14 @@ module _ (vs os : List ℕ) (v g : ℕ) where
           pairs = holds 10 (pairedAt os) (length vs) from11 good b eb hb
 
           pub pairing-found : Pairing os
-          pairing-found = record { thirds = rw (← s .same) (s .thirds); inside = opposite-low vs os s pairs; paired = opposite-twice vs os s pairs }
+          pairing-found =
+              record {
+                thirds =
+                    rw (← s .same) (s .thirds);
+                inside =
+                    opposite-low vs os s pairs;
+                paired = opposite-twice vs os s pairs;
+              }
 
           module _ (d : ℕ) (ed : d ≡ least (gluedAt vs os) (length vs)) where
             left11 : firstBroken (meshRungs vs os v g) good ≡ firstBroken from11 good
@@ -136,8 +144,10 @@ module _ (vs os : List ℕ) (v g : ℕ) where
 
         pub euler-stops : length vs / 3 + 4 ≢ 2 * m → (r : Answer) → r ≡ refused 15 0 → Later r
         euler-stops h r q =
-            q ∙ sym (left15 ∙ whole-stops 15 (eqb (length vs / 3 + 4) (2 * v)) [] (good vs os v g) (ne-eqb (length vs / 3 + 4) (2 * v) (λ z. h (omega arith))))
+            q ∙ sym (left15 ∙ whole-stops 15 (eqb (length vs / 3 + 4) (2 * v)) [] (good vs os v g)
+            (ne-eqb (length vs / 3 + 4) (2 * v) (λ z. h (omega arith))))
 
         pub all-passed : length vs / 3 + 4 ≡ 2 * m → (r : Answer) → r ≡ done (length vs / 3) v → Later r
         all-passed h r q =
-            q ∙ sym (left15 ∙ whole-passed 15 (eqb (length vs / 3 + 4) (2 * v)) [] (good vs os v g) (eq-eqb (length vs / 3 + 4) (2 * v) (omega arith)) ∙ none-broken (good vs os v g))
+            q ∙ sym (left15 ∙ whole-passed 15 (eqb (length vs / 3 + 4) (2 * v)) [] (good vs os v g)
+            (eq-eqb (length vs / 3 + 4) (2 * v) (omega arith)) ∙ none-broken (good vs os v g))

@@ -35,7 +35,8 @@ module _ (t p x : ℕ) (work : List ℕ) (h : x < t) (room : t < p) (within : p 
   pub met-new : getD work x 0 ≡ 0 → searchIn t (set (set work x 1) (p - 1) x) (p - 1) ≡ touch x (searchIn t work p)
   met-new e =
       search-eq (take-set-le t (set work x 1) (p - 1) x (omega arith) ∙ take-set-lt t work x 1 h)
-      (push-set (set work x 1) p x (omega arith) (rw (length-set work x 1) within) ∙ ap (_∷_ x) (drop-set-lt p work x 1 (omega arith)))
+      (push-set (set work x 1) p x (omega arith) (rw (length-set work x 1) within) ∙ ap (_∷_ x)
+      (drop-set-lt p work x 1 (omega arith)))
       ∙ sym (touch-new x (searchIn t work p) (getD-take t work x 0 h ∙ e))
 
   pub met-old : (getD work x 0 ≡ 0 → ⊥) → searchIn t work p ≡ touch x (searchIn t work p)
@@ -75,13 +76,22 @@ module _ (t : ℕ) (os : List ℕ) (a : ℕ) (work₀ work : List ℕ) (p : ℕ)
         → searchIn t work′ r ≡ spread os (getD work p 0) (searchIn t work (p + 1))
         → Searching t os a work₀ work′ r
     again work′ r same within e =
-        record { same = same ∙ v .same; within = within; good = subst (Good t os a) (sym e) (turned t os a tab (take t work) (drop (p + 1) work) (getD work p 0) at-top) }
+        record {
+          same =
+              same ∙ v .same;
+          within =
+              within;
+          good =
+              subst (Good t os a) (sym e)
+              (turned t os a tab (take t work) (drop (p + 1) work) (getD work p 0) at-top);
+        }
 
     pub fewer : (work′ : List ℕ) (r : ℕ) → searchIn t work′ r ≡ spread os (getD work p 0) (searchIn t work (p + 1))
         → owed (searchIn t work′ r) < owed (searchIn t work p)
     fewer work′ r e =
         subst (λ (y : Search). owed y < owed (searchIn t work p)) (sym e)
-        (subst (λ (l : List ℕ). owed (spread os (getD work p 0) (searchIn t work (p + 1))) < owed (record { seen = take t work; stack = l })) (sym top-first)
+        (subst (λ (l : List ℕ). owed (spread os (getD work p 0) (searchIn t work (p + 1))) < owed
+        (record { seen = take t work; stack = l })) (sym top-first)
         (falls t os a tab (take t work) (drop (p + 1) work) (getD work p 0) at-top))
 
   pub finished : length work ≤ p → Exact os a (take t work)
@@ -92,7 +102,15 @@ pub begun : (t : ℕ) (os : List ℕ) (a : ℕ) (work work′ : List ℕ) (p r :
     → searchIn t work′ r ≡ touch a (searchIn t work p) → Searching t os a work′ work′ r
 begun t os a work work′ p r h z ep l same e =
     let d : drop p work ≡ [] = drop-of-length-le work {i = p} (omega arith) in
-    record { same = refl; within = omega arith; good = subst (Good t os a) (sym (e ∙ ap (λ (y : List ℕ). touch a (record { seen = take t work; stack = y })) d)) (started t os a (take t work) h z) }
+    record {
+      same =
+          refl;
+      within =
+          omega arith;
+      good =
+          subst (Good t os a) (sym (e ∙ ap (λ (y : List ℕ). touch a (record { seen = take t work; stack = y }))
+          d)) (started t os a (take t work) h z);
+    }
 
 -- ---- rule 14 from the marks
 
@@ -108,11 +126,13 @@ agrees t os g work r pair size h exact e = e ∙ least-same (marked work) (reach
         whole m =
             reached-whole os t (triangle g) (pair .paired) (λ c q. omega (arith, pair .inside c (omega arith))) size
             (omega arith)
-            (exact .sound k (λ z. eqb-false (getD work k 0) 0 (not-is-true (eqb (getD work k 0) 0) m) (sym (getD-take t work k 0 l) ∙ z)))
+            (exact .sound k (λ z. eqb-false (getD work k 0) 0 (not-is-true (eqb (getD work k 0) 0) m)
+            (sym (getD-take t work k 0 l) ∙ z)))
 
         sound : mem k (reached os t t (triangle g)) ≡ true → marked work k ≡ true
         sound m =
-            ap not (ne-eqb (getD work k 0) 0 (λ z. exact .whole k (reached-sound os t (triangle g) (pair .paired) t k m) (getD-take t work k 0 l ∙ z)))
+            ap not (ne-eqb (getD work k 0) 0 (λ z. exact .whole k (reached-sound os t (triangle g) (pair .paired) t k m)
+            (getD-take t work k 0 l ∙ z)))
 
 -- the front of a table, cleared
 pub front-zeros : (t : ℕ) (work others : List ℕ) → work ≡ replicate t 0 ++ others → take t work ≡ replicate t 0

@@ -125,7 +125,8 @@ in-table t os k j tab h l = omega (arith, tab .corners, tab .inside (3 * k + j) 
 
 -- ---- a turn
 
-module _ (t : ℕ) (os : List ℕ) (a : ℕ) (tab : Closed t os) (seen st : List ℕ) (k : ℕ) (v : Good t os a (record { seen = seen; stack = k ∷ st })) where
+module _ (t : ℕ) (os : List ℕ) (a : ℕ) (tab : Closed t os) (seen st : List ℕ) (k : ℕ)
+    (v : Good t os a (record { seen = seen; stack = k ∷ st })) where
   abbrev under : Search
   under = record { seen = seen; stack = st }
 
@@ -145,7 +146,9 @@ module _ (t : ℕ) (os : List ℕ) (a : ℕ) (tab : Closed t os) (seen st : List
         met = λ j l. absurd (omega arith);
       }
     where
-      shut : (i : ℕ) → (i ≡ k → ⊥) → In i (k ∷ st) ⊎ ((j : ℕ) → j < 3 → Seen (record { seen = seen; stack = k ∷ st }) (across os i j)) → In i st ⊎ ((j : ℕ) → j < 3 → Seen under (across os i j))
+      shut : (i : ℕ) → (i ≡ k → ⊥)
+          → In i (k ∷ st) ⊎ ((j : ℕ) → j < 3 → Seen (record { seen = seen; stack = k ∷ st }) (across os i j))
+          → In i st ⊎ ((j : ℕ) → j < 3 → Seen under (across os i j))
       shut i n (inl (inl e)) = absurd (n e)
       shut i n (inl (inr q)) = inl q
       shut i n (inr q) = inr q
@@ -164,7 +167,13 @@ module _ (t : ℕ) (os : List ℕ) (a : ℕ) (tab : Closed t os) (seen st : List
       let r1 = meet-left (across os k 1) (touch (across os k 0) under)
       (omega (arith, v .size, meet-size (across os k 0) under, in-table t os k 1 tab top-in (omega arith))) in
       let r2 = meet-left (across os k 2) (touch (across os k 1) (touch (across os k 0) under))
-      (omega (arith, v .size, meet-size (across os k 0) under, meet-size (across os k 1) (touch (across os k 0) under), in-table t os k 2 tab top-in (omega arith))) in
+      (omega (
+        arith,
+        v .size,
+        meet-size (across os k 0) under,
+        meet-size (across os k 1) (touch (across os k 0) under),
+        in-table t os k 2 tab top-in (omega arith),
+      )) in
       (omega (arith, r0 .0, r1 .0, r2 .0), omega (arith, r0 .1, r1 .1, r2 .1))
 
   pub turned : Good t os a (spread os k under)
@@ -195,8 +204,11 @@ unfolding count bit
 count-replicate zero = refl
 count-replicate (suc t) = omega (arith, count-replicate t)
 
-pub started : (t : ℕ) (os : List ℕ) (a : ℕ) (seen : List ℕ) → a < t → seen ≡ replicate t 0 → Good t os a (touch a (record { seen = seen; stack = [] }))
-started t os a seen h e = subst (λ (l : List ℕ). Good t os a (touch a (record { seen = l; stack = [] }))) (sym e) (rw (touch-new a empty zero-at) good)
+pub started : (t : ℕ) (os : List ℕ) (a : ℕ) (seen : List ℕ) → a < t → seen ≡ replicate t 0
+    → Good t os a (touch a (record { seen = seen; stack = [] }))
+started t os a seen h e =
+    subst (λ (l : List ℕ). Good t os a (touch a (record { seen = l; stack = [] }))) (sym e)
+    (rw (touch-new a empty zero-at) good)
   where
     empty : Search
     empty = record { seen = replicate t 0; stack = [] }
@@ -237,13 +249,18 @@ started t os a seen h e = subst (λ (l : List ℕ). Good t os a (touch a (record
         small i (inl q) = subst (λ (y : ℕ). (y < t) × Seen (fresh a empty) y) (sym q) (h, fresh-seen a empty inside)
         small i (inr q) = absurd q
 
-pub ended : (t : ℕ) (os : List ℕ) (a : ℕ) (seen st : List ℕ) → st ≡ [] → Good t os a (record { seen = seen; stack = st }) → Exact os a seen
+pub ended : (t : ℕ) (os : List ℕ) (a : ℕ) (seen st : List ℕ) → st ≡ []
+    → Good t os a (record { seen = seen; stack = st }) → Exact os a seen
 ended t os a seen st e v = record { sound = v .sound; whole = whole }
   where
-    shut : (i : ℕ) → Seen (record { seen = seen; stack = st }) i → (j : ℕ) → j < 3 → Seen (record { seen = seen; stack = st }) (across os i j)
-    shut i p = go (subst (λ (l : List ℕ). In i l ⊎ ((j : ℕ) → j < 3 → Seen (record { seen = seen; stack = st }) (across os i j))) e (v .shut i p))
+    shut : (i : ℕ) → Seen (record { seen = seen; stack = st }) i → (j : ℕ) → j < 3
+        → Seen (record { seen = seen; stack = st }) (across os i j)
+    shut i p =
+        go (subst (λ (l : List ℕ). In i l ⊎ ((j : ℕ) → j < 3 → Seen (record { seen = seen; stack = st })
+        (across os i j))) e (v .shut i p))
       where
-        go : ⊥ ⊎ ((j : ℕ) → j < 3 → Seen (record { seen = seen; stack = st }) (across os i j)) → (j : ℕ) → j < 3 → Seen (record { seen = seen; stack = st }) (across os i j)
+        go : ⊥ ⊎ ((j : ℕ) → j < 3 → Seen (record { seen = seen; stack = st }) (across os i j)) → (j : ℕ) → j < 3
+            → Seen (record { seen = seen; stack = st }) (across os i j)
         go (inl q) = absurd q
         go (inr q) = q
 

@@ -1,9 +1,11 @@
--- A search for the triangles that are reached, as a machine on two lists: which triangles are seen, and which of them wait.
+-- A search for the triangles that are reached, as a machine on two lists: which triangles are seen, and which of them
+-- wait.
 --
 --   across os k j      the triangle across corner j of triangle k
 --   touch x s          x is seen, and waits if it was not
 --   spread os k s      the three neighbours of k are touched
---   searchIn t work p  the search, read off a work space: t numbers for what is seen, the stack at the end, its top at p
+--   searchIn t work p  the search, read off a work space: t numbers for what is seen, the stack at the end, its top at
+--                      p
 --   Closed t os        a table of t triangles whose entries are its corners
 --   Exact os a seen    seen is not 0 exactly at the triangles that are reached from triangle a
 --   marked work k      number k is not 0

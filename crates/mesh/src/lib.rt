@@ -1,5 +1,5 @@
-// The mesh check: numbers 8 to 15 of an answer (document 01, "Numbers of an answer"), in their order, each over the whole
-// table before the next. Linear on every input; the work space may hold anything.
+// The mesh check: numbers 8 to 15 of an answer (document 01, "Numbers of an answer"), in their order, each over the
+// whole table before the next. Linear on every input; the work space may hold anything.
 ghost use mathlib.Core.Path.{_≡_};
 ghost use mathlib.Core.Bool.{true};
 ghost use Prim.Native.Nat.{ℕ, _+_, _*_, _/_, _%_, _<_, _≤_};

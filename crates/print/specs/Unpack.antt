@@ -1,6 +1,7 @@
 -- What the program unpack prints (document 01, "Program and worked examples").
 --
---   unpackAnswer bytes   the checks of a record, with the program's limits: over 2,048 bytes is 2 at 0 before anything else,
+--   unpackAnswer bytes   the checks of a record, with the program's limits: over 2,048 bytes is 2 at 0 before anything
+--                        else,
 --                        over 800 triangles is 2 at 0 where check 2 stands
 --   unpackText bytes     the counts and the gate, then a line for each triangle; or the refusal
 --   ready                the tables, the work space and the buffer are those of 800 triangles

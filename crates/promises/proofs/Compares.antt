@@ -40,13 +40,15 @@ module _ {vs os letters walk work letters′ walk′ work′ : List ℕ} {v g : 
       → Compared vs os v g vs₂ os₂ v₂ g₂ a b same walk′ walk₂′
   compared {same} tells = record { shown = shown-by; found = found-by; only = only-by }
     where
-      strings : a .number ≡ 0 → b .number ≡ 0 → Tells same (lettersOf (meshWalk vs os g)) (lettersOf (meshWalk vs₂ os₂ g₂))
+      strings : a .number ≡ 0 → b .number ≡ 0
+          → Tells same (lettersOf (meshWalk vs os g)) (lettersOf (meshWalk vs₂ os₂ g₂))
       strings p q = rw (written-string w p, written-string x q) at tells
 
       shown-by : a .number ≡ 0 → b .number ≡ 0 → same ≡ true
           → (length vs ≡ length vs₂) × (v ≡ v₂) × ((h : ℕ → ℕ) × (n : ℕ → ℕ)
           × Renumbering (vertex vs) (opposite os) (vertex vs₂) (opposite os₂) (length vs / 3) v g g₂ h n
-          × ((y : ℕ) → y < length vs → h (byWalk (take (length vs / 3) walk′) y) ≡ byWalk (take (length vs / 3) walk₂′) y))
+          × ((y : ℕ) → y < length vs → h (byWalk (take (length vs / 3) walk′) y) ≡ byWalk (take (length vs / 3) walk₂′)
+          y))
       shown-by p q e =
           let m = write-was-done w p .mesh in
           let m₂ = write-was-done x q .mesh in

@@ -1,5 +1,5 @@
--- What was asked, theorem by theorem: each is stated whole, on the definitions of theory/specs, and proved by citing what
--- theory has. docs/PROMISES.md has the demand's own words beside each name.
+-- What was asked, theorem by theorem: each is stated whole, on the definitions of theory/specs, and proved by citing
+-- what theory has. docs/PROMISES.md has the demand's own words beside each name.
 --
 --   demand-1-settled         two answers for one input are equal, and so are the tables and the work space
 --   demand-2-closes          a string is read exactly if it closes: one word, of width 2
@@ -46,7 +46,8 @@ demand-1-settled {s} {vs} {os} {work} r q =
     )
 
 pub demand-1-written-settled : {vs os letters walk work letters′ walk′ work′ letters″ walk″ work″ : List ℕ} {v g : ℕ} {a b : Answer}
-    → Writes vs os v g letters walk work a letters′ walk′ work′ → Writes vs os v g letters walk work b letters″ walk″ work″
+    → Writes vs os v g letters walk work a letters′ walk′ work′
+    → Writes vs os v g letters walk work b letters″ walk″ work″
     → (a ≡ b) × (letters′ ≡ letters″) × (walk′ ≡ walk″) × (work′ ≡ work″)
 demand-1-written-settled {vs} {os} {letters} {walk} {work} {g = g} r q =
     let e = r .answer ∙ sym (q .answer) in (
@@ -56,7 +57,8 @@ demand-1-written-settled {vs} {os} {letters} {walk} {work} {g = g} r q =
       r .space ∙ ap (λ (x : Answer). cleared sizes x work) e ∙ sym (q .space),
     )
 
-pub demand-2-closes : (s : List ℕ) → (letterAnswer s .number ≡ 0 → Closes s) × (Closes s → letterAnswer s ≡ stringDone s)
+pub demand-2-closes : (s : List ℕ)
+    → (letterAnswer s .number ≡ 0 → Closes s) × (Closes s → letterAnswer s ≡ stringDone s)
 demand-2-closes s = (answer-closes s, closes-answer s)
 
 pub demand-2-verdict : (s : List ℕ) → Verdict s (letterAnswer s) × ((a : Answer) → Verdict s a → a ≡ letterAnswer s)
@@ -79,18 +81,21 @@ demand-2-accepted vs os v g = (accepted vs os v g true, accepts vs os v g)
 
 module _ {vs os : List ℕ} {v g : ℕ} (m : Accepted vs os v g) where
   pub demand-2-written : Closes (lettersOf (meshWalk vs os g))
-      × (length (lettersOf (meshWalk vs os g)) ≡ length vs / 3) × (length (cornersOf (meshWalk vs os g)) ≡ length vs / 3)
+      × (length (lettersOf (meshWalk vs os g)) ≡ length vs / 3)
+      × (length (cornersOf (meshWalk vs os g)) ≡ length vs / 3)
   demand-2-written = (mesh-closes m, letters-length m, corners-length m)
 
   pub demand-2-read-back : let w = wordOf (lettersOf (meshWalk vs os g)) in
-      (name : ℕ → ℕ) × Renumbering (vertex (tableV w)) (opposite (tableO w)) (vertex vs) (opposite os) (length vs / 3) v 0 g
+      (name : ℕ → ℕ) × Renumbering (vertex (tableV w)) (opposite (tableO w)) (vertex vs) (opposite os) (length vs / 3)
+      v 0 g
       (byWalk (cornersOf (meshWalk vs os g))) name
   demand-2-read-back = (mesh-round m .name, mesh-renumbers m)
 
 module _ {vs os vs′ os′ : List ℕ} {v g v′ g′ : ℕ} (m : Accepted vs os v g) (m′ : Accepted vs′ os′ v′ g′) where
   pub demand-3-equal : lettersOf (meshWalk vs os g) ≡ lettersOf (meshWalk vs′ os′ g′)
       → (length vs ≡ length vs′) × (v ≡ v′)
-      × Renumbering (vertex vs) (opposite os) (vertex vs′) (opposite os′) (length vs / 3) v g g′ (meshCorners m m′) (meshVertices m m′)
+      × Renumbering (vertex vs) (opposite os) (vertex vs′) (opposite os′) (length vs / 3) v g g′ (meshCorners m m′)
+      (meshVertices m m′)
   demand-3-equal s = let n = strings-sizes m m′ s in (n .0, n .1, strings-renumber m m′ s)
 
   pub demand-3-renumbered : length vs ≡ length vs′ → (h a : ℕ → ℕ)
@@ -101,5 +106,6 @@ module _ {vs os vs′ os′ : List ℕ} {v g v′ g′ : ℕ} (m : Accepted vs o
   pub demand-3-only : length vs ≡ length vs′ → (h a : ℕ → ℕ)
       → Renumbering (vertex vs) (opposite os) (vertex vs′) (opposite os′) (length vs / 3) v g g′ h a
       → ((c : ℕ) → c < 3 * (length vs / 3) → h c ≡ meshCorners m m′ c) × ((u : ℕ) → u < v → a u ≡ meshVertices m m′ u)
-      × ((x : ℕ) → meshCorners m m′ (byWalk (cornersOf (meshWalk vs os g)) x) ≡ byWalk (cornersOf (meshWalk vs′ os′ g′)) x)
+      × ((x : ℕ) → meshCorners m m′ (byWalk (cornersOf (meshWalk vs os g)) x) ≡ byWalk (cornersOf (meshWalk vs′ os′ g′))
+      x)
   demand-3-only n h a r = (renumber-corners m m′ n r, renumber-vertices m m′ n r, corners-by-walk m m′)

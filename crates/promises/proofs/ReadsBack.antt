@@ -39,7 +39,8 @@ unfolding shapeOk
 lengths-of vs os h =
     let count = countOk (length vs / 3) in
     let rest = and-right (eqb (length vs) (length os)) (eqb (length vs % 3) 0 && count) h in
-    let same = eqb-true (length vs) (length os) (and-left (eqb (length vs) (length os)) (eqb (length vs % 3) 0 && count) h) in
+    let same =
+    eqb-true (length vs) (length os) (and-left (eqb (length vs) (length os)) (eqb (length vs % 3) 0 && count) h) in
     let thirds = eqb-true (length vs % 3) 0 (and-left (eqb (length vs % 3) 0) count rest) in
     (same, omega arith, and-right (eqb (length vs % 3) 0) count rest)
 
@@ -47,16 +48,19 @@ module _ {vs os letters walk work letters′ walk′ work′ : List ℕ} {v g : 
     (w : Writes vs os v g letters walk work a letters′ walk′ work′) where
   pub write-was-done : a .number ≡ 0 → WriteDone vs os v g (length letters) (length walk) (length work)
   write-was-done h =
-      write-done vs os v g (length letters) (length walk) (length work) (ap (λ (x : Answer). x .number) (sym (w .answer)) ∙ h)
+      write-done vs os v g (length letters) (length walk) (length work)
+      (ap (λ (x : Answer). x .number) (sym (w .answer)) ∙ h)
 
   module _ (h : a .number ≡ 0) where
     pub written-string : take (length vs / 3) letters′ ≡ lettersOf (meshWalk vs os g)
     written-string =
-        first-part a (lettersOf (meshWalk vs os g)) letters (length vs / 3) h (w .string) (letters-length (write-was-done h .mesh))
+        first-part a (lettersOf (meshWalk vs os g)) letters (length vs / 3) h (w .string)
+        (letters-length (write-was-done h .mesh))
 
     pub written-table : take (length vs / 3) walk′ ≡ cornersOf (meshWalk vs os g)
     written-table =
-        first-part a (cornersOf (meshWalk vs os g)) walk (length vs / 3) h (w .table) (corners-length (write-was-done h .mesh))
+        first-part a (cornersOf (meshWalk vs os g)) walk (length vs / 3) h (w .table)
+        (corners-length (write-was-done h .mesh))
 
     pub write-counts : a ≡ done (length vs / 3) v
     write-counts = w .answer ∙ write-was-done h .answer

@@ -101,5 +101,6 @@ module _ {text vs os work vs′ os′ work′ : List ℕ} {r : Opened} (o : Open
       go z l =
           let room = record-room z in
           let same = space-same z in
-          let back = read-written text vs os work r vs′ os′ work′ o z out work′ p out′ work″ (rw e at packs) l (omega arith) in
+          let back =
+          read-written text vs os work r vs′ os′ work′ o z out work′ p out′ work″ (rw e at packs) l (omega arith) in
           (back .answer, back .same)

@@ -29,7 +29,8 @@ use Rattle.theory.specs.Word.{size, spell, wordOf}
 use Rattle.theory.specs.declared.Answer.{Answer}
 
 -- the part of a filled table that was made
-pub first-part : (a : Answer) (made old : List ℕ) {tab : List ℕ} (n : ℕ) → a .number ≡ 0 → tab ≡ filled a made old → length made ≡ n
+pub first-part : (a : Answer) (made old : List ℕ) {tab : List ℕ} (n : ℕ) → a .number ≡ 0 → tab ≡ filled a made old
+    → length made ≡ n
     → take n tab ≡ made
 first-part a made old n h e m =
     ap (take n) (e ∙ filled-done a made old h) ∙ rw (← m) (take-append-seam made (drop (length made) old))
@@ -48,11 +49,13 @@ module _ {s vs os work vs′ os′ work′ : List ℕ} {a : Answer} (r : Reads s
 
     pub read-vertices : take (3 * length s) vs′ ≡ tableV (wordOf s)
     read-vertices =
-        first-part a (tableV (wordOf s)) vs (3 * length s) h (r .vertices) (length-v (wordOf s) ∙ ap (λ (n : ℕ). 3 * n) read-size)
+        first-part a (tableV (wordOf s)) vs (3 * length s) h (r .vertices)
+        (length-v (wordOf s) ∙ ap (λ (n : ℕ). 3 * n) read-size)
 
     pub read-neighbours : take (3 * length s) os′ ≡ tableO (wordOf s)
     read-neighbours =
-        first-part a (tableO (wordOf s)) os (3 * length s) h (r .neighbours) (length-o (wordOf s) ∙ ap (λ (n : ℕ). 3 * n) read-size)
+        first-part a (tableO (wordOf s)) os (3 * length s) h (r .neighbours)
+        (length-o (wordOf s) ∙ ap (λ (n : ℕ). 3 * n) read-size)
 
     pub read-counts : a ≡ stringDone s
     read-counts = r .answer ∙ read-was-done h .answer
@@ -74,7 +77,8 @@ module _ {s vs os work vs′ os′ work′ : List ℕ} {a : Answer} (r : Reads s
   read-returned {letters} {walk} {letters′} {walk′} {work″} {b} wrote = record { read = r .answer; returns = go }
     where
       go : a .number ≡ 0 → length s ≤ length letters → length s ≤ length walk
-          → (b ≡ a) × (letters′ ≡ s ++ drop (length s) letters) × (walk′ ≡ tipCorners (length s) ++ drop (length s) walk)
+          → (b ≡ a) × (letters′ ≡ s ++ drop (length s) letters)
+          × (walk′ ≡ tipCorners (length s) ++ drop (length s) walk)
       go h p q =
           let d = read-was-done h in
           let w = wordOf s in
@@ -95,7 +99,8 @@ module _ {s vs os work vs′ os′ work′ : List ℕ} {a : Answer} (r : Reads s
           ∙ rw m in
           let zero = ap (λ (x : Answer). x .number) ans in (
             ans ∙ sym (read-counts h),
-            made .string ∙ filled-done b (lettersOf (meshWalk (tableV w) (tableO w) 0)) letters zero ∙ rw (back .0, spelt),
+            made .string ∙ filled-done b (lettersOf (meshWalk (tableV w) (tableO w) 0)) letters zero ∙ rw
+                (back .0, spelt),
             made .table ∙ filled-done b (cornersOf (meshWalk (tableV w) (tableO w) 0)) walk zero
                 ∙ rw (back .1, read-size h, length-tips 0 (length s)),
           )

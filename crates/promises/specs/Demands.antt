@@ -27,7 +27,8 @@ pub record Returned (s vs os letters walk work : List ℕ) (a b : Answer) (lette
       → (b ≡ a) × (letters′ ≡ s ++ drop (length s) letters) × (walk′ ≡ tipCorners (length s) ++ drop (length s) walk)
 
 -- the mesh was written with answer a, and its string was read with answer b into vs′ and os′, lent as vs₀ and os₀
-pub record ReadBack (vs os : List ℕ) (v g : ℕ) (letters walk vs₀ os₀ work : List ℕ) (a b : Answer) (walk′ vs′ os′ : List ℕ) : Type 0 where
+pub record ReadBack (vs os : List ℕ) (v g : ℕ) (letters walk vs₀ os₀ work : List ℕ) (a b : Answer)
+    (walk′ vs′ os′ : List ℕ) : Type 0 where
   pub written : a ≡ writeAnswer vs os v g (length letters) (length walk) (length work)
   pub returns : a .number ≡ 0 → length vs ≤ length vs₀ → length os ≤ length os₀
       → (b ≡ a) × ((name : ℕ → ℕ)
@@ -35,7 +36,8 @@ pub record ReadBack (vs os : List ℕ) (v g : ℕ) (letters walk vs₀ os₀ wor
       (length vs / 3) v 0 g (byWalk (take (length vs / 3) walk′)) name)
 
 -- two meshes were written with answers a and b, and their strings compared
-pub record Compared (vs os : List ℕ) (v g : ℕ) (vs′ os′ : List ℕ) (v′ g′ : ℕ) (a b : Answer) (same : Bool) (walk walk′ : List ℕ) : Type 0 where
+pub record Compared (vs os : List ℕ) (v g : ℕ) (vs′ os′ : List ℕ) (v′ g′ : ℕ) (a b : Answer) (same : Bool)
+    (walk walk′ : List ℕ) : Type 0 where
   -- equal strings: one mesh but for its numbers, by the two walk tables
   pub shown : a .number ≡ 0 → b .number ≡ 0 → same ≡ true
       → (length vs ≡ length vs′) × (v ≡ v′) × ((h : ℕ → ℕ) × (n : ℕ → ℕ)

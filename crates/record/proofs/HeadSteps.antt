@@ -135,6 +135,15 @@ module _ (text : List ℕ) (form : NumberLine) (ef : form ≡ formLine text) whe
             step-refused z = head-refused text well a values-read z
 
             pub step-accepted : a .number ≡ 0
-                → record { number = 0; place = 0; gate = gate .value; start = form .size + tri .size + gate .size + 4; len = n - 5 } ≡ headOf text
+                → record {
+                  number =
+                      0;
+                  place =
+                      0;
+                  gate =
+                      gate .value;
+                  start = form .size + tri .size + gate .size + 4;
+                  len = n - 5;
+                } ≡ headOf text
             unfolding symStart
             step-accepted z = rw (ef, tri-read, gate-read, sym letter-count) (head-accepted text well a values-read z)

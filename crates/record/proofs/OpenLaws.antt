@@ -1,6 +1,7 @@
 -- Reading a record: a head that is refused, and a head whose letters are passed on.
 --
---   head-part head-inside   where the head is accepted its letters are the part that is passed on, which ends within the text
+--   head-part head-inside   where the head is accepted its letters are the part that is passed on, which ends within
+--                           the text
 --   open-refused            the call's promise after a refused head
 --   open-read               the call's promise after the string reader's
 use mathlib.Core.Bool.{Bool, _&&_, cond, true}
@@ -22,12 +23,11 @@ use Rattle.record.specs.declared.Head.{Head}
 use Rattle.record.specs.declared.Opened.{Opened}
 use Rattle.theory.proofs.AnswerLaws.{whole-passed}
 use Rattle.theory.proofs.CallLaws.{filled-refused, rungs-keep}
-use Rattle.theory.proofs.Counting.{count}
 use Rattle.theory.specs.Answer.{countOk, countRung, done, refused, roomRung}
 use Rattle.theory.specs.Calls.{Reads, cleared, filled, judgeAnswer, readAnswer, sizes}
 use Rattle.theory.specs.Judge.{letterRungs, stringAnswer, stringDone}
 use Rattle.theory.specs.Lists.{mem}
-use Rattle.theory.specs.Tables.{tableO, tableV, vertices}
+use Rattle.theory.specs.Tables.{tableO, tableV}
 use Rattle.theory.specs.Word.{wordOf}
 use Rattle.theory.specs.declared.Answer.{Answer}
 

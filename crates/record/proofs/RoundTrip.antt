@@ -7,7 +7,7 @@ use mathlib.Core.Bool.{Bool, _&&_, true}
 use mathlib.Core.List.{List, [], _++_, _∷_}
 use mathlib.Core.Logic.{_≢_}
 use mathlib.Core.Path.{_∙_, _≡_, ap, refl, subst, sym}
-use Prim.Native.Nat.{_*_, _<_, _≤_, suc, zero, ℕ}
+use Prim.Native.Nat.{_*_, _<_, _≤_, suc, ℕ}
 use native.Mathlib.Omega.{arith}
 use lib.Dec.{leb, ltb}
 use lib.ListN.{drop, getD, length, take}
@@ -28,7 +28,6 @@ use Rattle.theory.proofs.Counting.{count}
 use Rattle.theory.proofs.LeastLaws.{least-below}
 use Rattle.theory.proofs.Opens.{opens}
 use Rattle.theory.proofs.TestLaws.{and-left, not-both}
-use Rattle.theory.proofs.WordTables.{good}
 use Rattle.theory.specs.Answer.{countOk, each, firstBroken, roomRung}
 use Rattle.theory.specs.Judge.{letterAnswer, letterRungs, stringDone}
 use Rattle.theory.specs.Letter.{isLetter, letter}

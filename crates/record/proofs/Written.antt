@@ -6,7 +6,7 @@
 use mathlib.Core.Bool.{true}
 use mathlib.Core.List.{List, []}
 use mathlib.Core.Path.{_∙_, _≡_, ap, refl, sym}
-use Prim.Native.Nat.{_*_, _+_, _<_, _≤_, one, suc, ℕ}
+use Prim.Native.Nat.{_*_, _+_, _<_, _≤_, suc, ℕ}
 use native.Mathlib.Omega.{arith}
 use lib.ListN.{length}
 use Rattle.record.proofs.Accepted.{Good, Lines}
@@ -21,7 +21,6 @@ use Rattle.text.specs.Decimal.{decimal}
 use Rattle.text.specs.Line.{after, isKeyed, lacks, lineEnd, numberLine, valueOf}
 use Rattle.text.specs.declared.NumberLine.{NumberLine}
 use Rattle.theory.proofs.AnswerLaws.{count-few}
-use Rattle.theory.proofs.CornerLaws.{three}
 use Rattle.theory.specs.Answer.{countOk}
 
 pub record Packable (s : List ℕ) (gate : ℕ) : Type 0 where

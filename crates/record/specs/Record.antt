@@ -1,4 +1,5 @@
--- The last record as a text (document 01, "The last record"): four lines, this order, each ended by byte 10, nothing after.
+-- The last record as a text (document 01, "The last record"): four lines, this order, each ended by byte 10, nothing
+-- after.
 --
 --   recordText t gate s    form=1
 --                          tri=t

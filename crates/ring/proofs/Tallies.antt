@@ -104,7 +104,11 @@ module _ (vs work : List ℕ) (c : ℕ) (h : c < length vs) (room : length vs + 
     where
       go : Dec (y < length vs) → Tallied vs c (cond (ltb y (length vs)) full work)
       go (yes l) =
-          rw (lt-ltb y (length vs) l) (record { counts = λ u k. counts-in l u k (ℕ-discrete u y); firsts = λ u k p. firsts-in l u k p (ℕ-discrete u y) })
+          rw (lt-ltb y (length vs) l) (record {
+            counts = λ u k. counts-in l u k
+                (ℕ-discrete u y);
+            firsts = λ u k p. firsts-in l u k p (ℕ-discrete u y);
+          })
       go (no l) =
           rw (le-ltb y (length vs) (omega arith)) (record {
             counts = λ u k. t .counts u k ∙ omega (arith, more u, bit-off u y (λ q. omega arith));

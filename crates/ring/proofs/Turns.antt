@@ -25,7 +25,7 @@ use Rattle.theory.proofs.RingTests.{absent, first-in, ringed-present}
 use Rattle.theory.proofs.SwingLaws.{Pairing, Surface, swing-in, swings, swings-more}
 use Rattle.theory.proofs.TestLaws.{true-or-false}
 use Rattle.theory.specs.Corner.{opposite, swing}
-use Rattle.theory.specs.Lists.{back, iter, least}
+use Rattle.theory.specs.Lists.{iter, least}
 use Rattle.theory.specs.Mesh.{firstCorner, ringedAt}
 
 pub record Swinging (os : List ℕ) (c d i : ℕ) : Type 0 where
@@ -37,7 +37,8 @@ pub record Swinging (os : List ℕ) (c d i : ℕ) : Type 0 where
 module _ (os : List ℕ) (c : ℕ) where
   pub swing-start : Pairing os → c < length os → (d : ℕ) → d ≡ swing (opposite os) c → Swinging os c d 1
   unfolding iter
-  swing-start k h d e = record { met = e; inside = rw e (swing-in os k c h); some = omega arith; apart = λ j l. absurd (omega arith) }
+  swing-start k h d e =
+      record { met = e; inside = rw e (swing-in os k c h); some = omega arith; apart = λ j l. absurd (omega arith) }
 
   module _ (d i : ℕ) (s : Swinging os c d i) where
     pub swing-turn : Pairing os → d ≢ c → (e : ℕ) → e ≡ swing (opposite os) d → Swinging os c e (i + 1)
@@ -59,7 +60,8 @@ module _ (os : List ℕ) (c : ℕ) where
     pub swing-stop : (k : ℕ) → i < k → d ≡ c → false ≡ awayFor os c k
     unfolding awayFor
     swing-stop k h e =
-        sym (all-off (λ j. not (eqb (swings os (suc j) c) c)) (k - 1) (i - 1) (omega (arith, s .some)) (ap not (eq-eqb (swings os (suc (i - 1)) c) c back)))
+        sym (all-off (λ j. not (eqb (swings os (suc j) c) c)) (k - 1) (i - 1) (omega (arith, s .some))
+        (ap not (eq-eqb (swings os (suc (i - 1)) c) c back)))
       where
         back : swings os (suc (i - 1)) c ≡ c
         back = let q : suc (i - 1) ≡ i = omega (arith, s .some) in ap (λ (u : ℕ). swings os u c) q ∙ sym (s .met) ∙ e
@@ -98,5 +100,9 @@ rings-full vs os v u b h l = scan-stop (ringedAt vs os) v u b h (go (true-or-fal
   where
     go : (ringedAt vs os u ≡ true) ⊎ (ringedAt vs os u ≡ false) → ringedAt vs os u ≡ false
     go (inl q) =
-        absurd (omega (arith, present-few (suc u) vs (λ y k. ringed-present vs os y (scan-turn (ringedAt vs os) v u b q y (omega arith)))))
+        absurd (omega (
+          arith,
+          present-few (suc u) vs
+              (λ y k. ringed-present vs os y (scan-turn (ringedAt vs os) v u b q y (omega arith))),
+        ))
     go (inr q) = q

@@ -1,5 +1,6 @@
--- The work space while corners are counted: at u how many corners vertex u has, and n places further on the first of them,
--- n being the number of corners. A vertex number of n or more has no place; such a vertex is one too many (rule 13).
+-- The work space while corners are counted: at u how many corners vertex u has, and n places further on the first of
+-- them, n being the number of corners. A vertex number of n or more has no place; such a vertex is one too many (rule
+-- 13).
 --
 --   tallied vs c work     the table after corner c is counted
 --   First vs c u d        d is the first corner of u from c on

@@ -1,5 +1,6 @@
-// Rule 13: each vertex has a corner, and swinging from its first corner meets all of them. Linear, for tables and vertex
-// counts of every kind: the corners of each vertex are counted, and a ring is followed no further than it has corners.
+// Rule 13: each vertex has a corner, and swinging from its first corner meets all of them. Linear, for tables and
+// vertex counts of every kind: the corners of each vertex are counted, and a ring is followed no further than it has
+// corners.
 ghost use mathlib.Core.Path.{_≡_};
 ghost use Prim.Native.Nat.{ℕ, _+_, _<_, _≤_};
 ghost use lib.ListN.{length, getD};

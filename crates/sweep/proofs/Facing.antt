@@ -41,7 +41,12 @@ module _ (vs os : List ℕ) (c a d : ℕ) (k : c < length os) (ed : d ≡ getD o
         go : Dec (vertex vs q ≡ a) → Says (FacesAt vs os c a) (eqb (getD vs q 0) a)
         go (yes z) =
             rw (eq-eqb (vertex vs q) a z)
-            (holds (record { inside = omega (arith, face); back = ap (opposite os) face ∙ faced ∙ n; ends = there ∙ z }))
+            (holds (record {
+              inside = omega (arith, face);
+              back = ap (opposite os) face ∙ faced ∙ n;
+              ends = there
+                  ∙ z;
+            }))
         go (no z) = rw (ne-eqb (vertex vs q) a z) (fails (λ f. z (sym there ∙ f .ends)))
 
 -- it lies in the table

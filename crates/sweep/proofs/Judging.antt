@@ -6,7 +6,6 @@ use mathlib.Core.Bool.{Bool, false, true}
 use mathlib.Core.List.{List}
 use mathlib.Core.Path.{_∙_, _≡_, ap, refl, sym}
 use Prim.Native.Nat.{_*_, _+_, _/_, _≤_, ℕ}
-use native.Mathlib.Omega.{arith}
 use lib.ListN.{length}
 use Rattle.sweep.proofs.Saying.{said-no, said-yes, says-same}
 use Rattle.sweep.proofs.Spheres.{Swept, swept-accepted}
@@ -21,7 +20,7 @@ use Rattle.theory.specs.Mesh.{Accepted, meshRungs, shapeOk}
 use Rattle.theory.specs.Walk.{meshWalk}
 use Rattle.theory.specs.declared.Answer.{Answer}
 use Rattle.walk.specs.Calls.{Traced}
-use Rattle.walk.specs.Table.{AllOn, codes, keptTo}
+use Rattle.walk.specs.Table.{AllOn, keptTo}
 
 module _ {vs os : List ℕ} {v g : ℕ} {work : List ℕ} where
   pub refused-walk : (Accepted vs os v g → ⊥) → Walks false vs os v g work

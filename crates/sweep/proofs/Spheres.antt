@@ -18,10 +18,10 @@ use Rattle.sweep.specs.Sound.{FacesAt, Says, Sound, SoundAt}
 use Rattle.theory.proofs.CornerLaws.{next-left, next-right, next-tip}
 use Rattle.theory.proofs.MeshLaws.{Shape, shape-of}
 use Rattle.theory.proofs.RingsFollow.{sphere-accepted}
-use Rattle.theory.specs.Corner.{next, opposite, previous, vertex}
-use Rattle.theory.specs.Mesh.{Accepted, Sphere, shapeOk}
+use Rattle.theory.specs.Corner.{next, opposite, vertex}
+use Rattle.theory.specs.Mesh.{Accepted, shapeOk}
 use Rattle.walk.specs.Calls.{Traceable, Traced}
-use Rattle.walk.specs.Table.{AllOn, Walkable}
+use Rattle.walk.specs.Table.{AllOn}
 
 pub record Swept (vs os : List ℕ) (v g : ℕ) : Type 0 where
   pub shape : shapeOk vs os ≡ true
@@ -92,7 +92,8 @@ module _ {vs os : List ℕ} {v g : ℕ} (a : Accepted vs os v g) where
         ends = sym (m .glued c) ∙ ap (vertex vs) e;
       } in
       record {
-        below = (m .below (3 * k) (omega arith), m .below (3 * k + 1) (omega arith), m .below (3 * k + 2) (omega arith));
+        below =
+            (m .below (3 * k) (omega arith), m .below (3 * k + 1) (omega arith), m .below (3 * k + 2) (omega arith));
         first = λ e. m .apart (3 * k) (omega arith) (e ∙ sym (ap (vertex vs) (next-tip k)));
         second = λ e. m .apart (3 * k + 1) (omega arith) (e ∙ sym (ap (vertex vs) (next-left k)));
         third = λ e. m .apart (3 * k + 2) (omega arith) (e ∙ sym (ap (vertex vs) (next-right k)));

@@ -1,5 +1,5 @@
--- Rules 9 to 12 as the sweep looks at them: once for each triangle, and rule 11 from one side, since it is looked at from
--- the other side at the opposite corner.
+-- Rules 9 to 12 as the sweep looks at them: once for each triangle, and rule 11 from one side, since it is looked at
+-- from the other side at the opposite corner.
 --
 --   Says P r     r is the answer to P
 --   Even         both tables are of one length, a multiple of 3

@@ -1,6 +1,6 @@
-// A mesh is judged by one sweep over its triangles and by its walk: rules 8 to 12 and 15 hold in the sweep, and then the
-// walk reaches every triangle and marks every vertex exactly where the mesh is accepted (theory: RingsFollow, Covered).
-// Only where it is refused the rules are judged one by one, to name the number and the place.
+// A mesh is judged by one sweep over its triangles and by its walk: rules 8 to 12 and 15 hold in the sweep, and then
+// the walk reaches every triangle and marks every vertex exactly where the mesh is accepted (theory: RingsFollow,
+// Covered). Only where it is refused the rules are judged one by one, to name the number and the place.
 ghost use mathlib.Core.Path.{_≡_};
 ghost use mathlib.Core.Bool.{true};
 ghost use Prim.Native.Nat.{_+_, _*_, _/_, _<_, _≤_};

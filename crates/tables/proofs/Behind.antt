@@ -21,8 +21,7 @@ use Rattle.theory.proofs.ListLaws.{back-take, length-front, length-tail}
 use Rattle.theory.proofs.Opens.{length-opens, opens}
 use Rattle.theory.proofs.Rows.{Agree, Edges, Rows, agree, edges-drop, edges-first, edges-last, edges-snoc, edges-take}
 use Rattle.theory.proofs.WordLaws.{width-two}
-use Rattle.theory.proofs.WordTables.{rows}
-use Rattle.theory.specs.Corner.{opposite, right, vertex}
+use Rattle.theory.specs.Corner.{opposite, vertex}
 use Rattle.theory.specs.Lists.{back, front, head, tail}
 use Rattle.theory.specs.Tables.{links, zips}
 use Rattle.theory.specs.Word.{Word, news, size, wC, wE, wL, wR, wS, width}

@@ -11,7 +11,7 @@ use Rattle.tables.specs.Built.{Buildable, Built}
 use Rattle.tables.specs.Fill.{fillV}
 use Rattle.theory.proofs.WordLaws.{length-spell, word-of-spell}
 use Rattle.theory.specs.Tables.{tableO, tableV}
-use Rattle.theory.specs.Word.{size, spell, wordOf}
+use Rattle.theory.specs.Word.{size, wordOf}
 
 pub built : (s work vs os vs′ os′ : List ℕ) → Buildable s work vs os → os′ ≡ take (length os) work
     → vs′ ≡ fillV s (take (length work - 3 * length s) (drop (3 * length s) work)) os′ vs → Built s vs′ os′
@@ -28,7 +28,8 @@ built s work vs os vs′ os′ h e g =
     record {
       vertices =
           g
-          ∙ ap (λ (x : List ℕ). fillV s x os′ vs) (take-all (length work - 3 * length s) ns (omega (arith, length-drop (3 * length s) work)))
+          ∙ ap (λ (x : List ℕ). fillV s x os′ vs) (take-all (length work - 3 * length s) ns
+          (omega (arith, length-drop (3 * length s) work)))
           ∙ ap (λ (x : List ℕ). fillV s ns x vs) eo
           ∙ ap (λ (x : List ℕ). fillV x ns (tableO w) vs) (sym (c .spelt))
           ∙ fill-table w (c .sound) (c .two) vs ns lv noted

@@ -2,7 +2,8 @@
 --
 --   Behind b bs    the entry of the first of bs is b, of each other the one before it
 --   Chained bs     bs are linked so
---   chained-..     one more at the front or the end, two lists in one, all but the last, and a table that has not changed
+--   chained-..     one more at the front or the end, two lists in one, all but the last, and a table that has not
+--                  changed
 use mathlib.Core.List.{List, [], _++_, _∷_}
 use mathlib.Core.Path.{_∙_, _≡_}
 use Prim.Native.Nat.{_≤_, ℕ}

@@ -7,15 +7,15 @@
 --   each-same                              joins in a table that has not changed at their ends
 use mathlib.Core.List.{List, [], _++_, _∷_}
 use mathlib.Core.Logic.{_≢_}
-use mathlib.Core.Path.{_∙_, _≡_, ap, subst, sym}
+use mathlib.Core.Path.{_∙_, _≡_, ap}
 use Prim.Native.Nat.{_*_, _+_, _<_, _≤_, ℕ}
-use native.Mathlib.Decide.{decLe, decLt, ℕ-discrete}
+use native.Mathlib.Decide.{decLt, ℕ-discrete}
 use native.Mathlib.Omega.{arith}
 use lib.Dec.{eqb}
 use lib.ListN.{getD, length, length-set, set}
 use lib.Seq.{getD-set-other, getD-set-same}
 use Rattle.theory.proofs.Chain.{Each}
-use Rattle.theory.proofs.Counting.{bit, bit-refl, count, count-append, tris, tris-low, tris-off, tris-once}
+use Rattle.theory.proofs.Counting.{bit, bit-refl, count, count-append, tris-low, tris-off, tris-once}
 use Rattle.theory.proofs.JoinLaws.{Join}
 use Rattle.theory.proofs.ListLaws.{snoc-view}
 use Rattle.theory.proofs.Opens.{cover, ends, length-opens, mates, opens}
@@ -121,8 +121,7 @@ unfolding ends count
 each-same work work′ [] f h = tt
 each-same work work′ ((a ⇌ b) ∷ js) f h =
     let ra = bit-refl a in
-    let rb = bit-refl b in
-    (
+    let rb = bit-refl b in (
       (f a (omega arith) ∙ h .0 .0, f b (omega arith) ∙ h .0 .1, h .0 .2),
       each-same work work′ js (λ x m. f x (omega arith)) (h .1),
     )

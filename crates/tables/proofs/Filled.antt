@@ -11,7 +11,7 @@ use Prim.Native.Nat.{_*_, _+_, _<_, _≤_, suc, ℕ}
 use native.Mathlib.Numerals.{add-one}
 use native.Mathlib.Omega.{arith}
 use lib.ListN.{List·getD-append, drop, drop-of-length-le, getD, length, set, take}
-use lib.Seq.{append-snoc, drop-cons, getD-at, getD-take, length-take-le, set-at, take-length, take-suc}
+use lib.Seq.{append-snoc, drop-cons, getD-take, length-take-le, set-at, take-length, take-suc}
 use Rattle.tables.specs.Fill.{Fill, afterFacing, atLeft, atRight, beforeFacing, fillIn, resumed, row, stored}
 use Rattle.theory.proofs.CornerLaws.{next-left, next-low, next-right, next-tip, previous-left, previous-low, previous-right, previous-tip}
 use Rattle.theory.proofs.JoinLaws.{Join}

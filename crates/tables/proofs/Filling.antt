@@ -11,7 +11,7 @@ use native.Mathlib.Numerals.{add-one}
 use native.Mathlib.Omega.{arith}
 use lib.ListN.{drop, drop-of-length-le, getD, length, set}
 use lib.Seq.{drop-cons}
-use Rattle.tables.specs.Fill.{Fill, afterFacing, atLeft, atRight, beforeFacing, fillIn, fillRun, fillStep, fillV, resumed, row, stored}
+use Rattle.tables.specs.Fill.{Fill, afterFacing, atLeft, atRight, beforeFacing, fillIn, fillRun, fillStep, fillV, resumed, row}
 use Rattle.theory.specs.Corner.{next, previous}
 use Rattle.theory.specs.Letter.{letter}
 use Rattle.theory.specs.declared.Letter.{Letter}
@@ -93,7 +93,14 @@ module _ (s ns os vs₀ vs : List ℕ) (l r n k : ℕ) (inv : Filling s ns os vs
       let z = fillIn vs l r n in
       record {
         at = omega arith;
-        few = omega (arith, inv .few, new-low (letter (getD s k 0)) k ns os (fillIn vs l r n), ap (λ (y : Fill). y .new) e);
+        few =
+            omega (
+              arith,
+              inv .few,
+              new-low (letter (getD s k 0)) k ns os (fillIn vs l r n),
+              ap (λ (y : Fill). y .new)
+                  e,
+            );
         len = m ∙ inv .len;
         same =
             inv .same

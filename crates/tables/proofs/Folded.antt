@@ -91,7 +91,8 @@ module _ (s work₀ work : List ℕ) (first last top i : ℕ) (can : Foldable s 
   at-start = omega arith
 
   all-words : Standing (length s) (foldIn work first last top) (words s) 0
-  all-words = subst (λ (j : ℕ). Standing (length s) (foldIn work first last top) (words (drop j s)) j) at-start (inv .stands)
+  all-words =
+      subst (λ (j : ℕ). Standing (length s) (foldIn work first last top) (words (drop j s)) j) at-start (inv .stands)
 
   deep : length work - top ≡ 3 * length (words s)
   deep = subst (λ (j : ℕ). length work - top ≡ 3 * length (words (drop j s))) at-start (inv .deep)
@@ -117,9 +118,11 @@ module _ (s work₀ work : List ℕ) (first last top i : ℕ) (can : Foldable s 
 
   pub folded-wide : first ≢ last → (work′ : List ℕ) → Folded s false work′
   folded-wide h work′ =
-      stopped s (λ c. h (eqb-true first last (one-width (c .word) (only c) ∙ eq-eqb (width (c .word)) 2 (c .two)))) work′
+      stopped s (λ c. h (eqb-true first last (one-width (c .word) (only c) ∙ eq-eqb (width (c .word)) 2 (c .two))))
+      work′
 
-  pub folded-done : (n : ℕ) → n ≡ length work → n - top ≡ 3 → first ≡ last → (work′ : List ℕ) → work′ ≡ joinAt last 0 work
+  pub folded-done : (n : ℕ) → n ≡ length work → n - top ≡ 3 → first ≡ last → (work′ : List ℕ)
+      → work′ ≡ joinAt last 0 work
       → Folded s true work′
   unfolding foldIn firstWord
   folded-done n is h same work′ f = go (words s) refl

@@ -120,7 +120,8 @@ closing s z (suc j) m n c h =
       calm = λ l.
           let b = letter-new (getD s j 0) l in
           let one : 1 ≤ length ws = subst (λ (a : Letter). Enough a ws) l enough in
-          first-same (length s) z ws (suc j) one h ∙ and-rest (eqb (getD s j 0) (byte C)) (eqb (width (firstWord ws)) 2) b calm;
+          first-same (length s) z ws (suc j) one h ∙ and-rest (eqb (getD s j 0) (byte C)) (eqb (width (firstWord ws)) 2)
+          b calm;
       known = letters j (omega arith);
     })
 

@@ -11,10 +11,10 @@ use Rattle.tables.proofs.Chained.{chained-append, chained-cons, chained
 use Rattle.tables.proofs.Corners.{each-same, first-in, front-not-last, inner-in, inner-not-open, join-left, join-off, join-right, last-in, length-join, open-in, opens-once, rest-not-first, some-open}
 use Rattle.tables.proofs.Held.{Held, Standing, Waits, recorded-same, waits-same}
 use Rattle.tables.specs.Fold.{Fold, foldC, foldL, foldR}
-use Rattle.theory.proofs.Counting.{count, count-front, count-tail}
+use Rattle.theory.proofs.Counting.{count-front, count-tail}
 use Rattle.theory.proofs.ListLaws.{back-snoc, head-front, head-snoc}
 use Rattle.theory.proofs.Opens.{length-opens, mates, opens}
-use Rattle.theory.specs.Lists.{back, front, head, tail}
+use Rattle.theory.specs.Lists.{back, front, head}
 use Rattle.theory.specs.Tables.{joinAt, links}
 use Rattle.theory.specs.Word.{Word, size, wC, wL, wR, width}
 
@@ -74,8 +74,8 @@ module _ (t k : ℕ) (work : List ℕ) (w : Word) (fits : 4 * t ≤ length work)
             ne,
           ),
           each-same work onC (links (k + 1) w) (λ x i.
-          in-C x (inner-in (k + 1) w o x (omega arith) .0)
-          (inner-not-open (k + 1) w o x y (omega arith) (last-in bs some))) (h .linked),
+              in-C x (inner-in (k + 1) w o x (omega arith) .0)
+              (inner-not-open (k + 1) w o x y (omega arith) (last-in bs some))) (h .linked),
         );
         mated = (
           (
@@ -86,8 +86,8 @@ module _ (t k : ℕ) (work : List ℕ) (w : Word) (fits : 4 * t ≤ length work)
             yk,
           ),
           each-same work onC (mates (k + 1) w) (λ x i.
-          in-C x (inner-in (k + 1) w o x (omega arith) .0)
-          (inner-not-open (k + 1) w o x y (omega arith) (last-in bs some))) (h .mated),
+              in-C x (inner-in (k + 1) w o x (omega arith) .0)
+              (inner-not-open (k + 1) w o x y (omega arith) (last-in bs some))) (h .mated),
         );
         chain =
             chained-same work onC (front bs) (λ x i.
@@ -152,7 +152,8 @@ module _ (t k : ℕ) (work : List ℕ) (w : Word) (fits : 4 * t ≤ length work)
           ),
           each-same work onL (links (k + 1) w) (λ x i. in-L x x (inner-in (k + 1) w o x (omega arith) .0)) (h .linked),
         );
-        mated = each-same work onL (mates (k + 1) w) (λ x i. in-L x x (inner-in (k + 1) w o x (omega arith) .0)) (h .mated);
+        mated =
+            each-same work onL (mates (k + 1) w) (λ x i. in-L x x (inner-in (k + 1) w o x (omega arith) .0)) (h .mated);
         chain =
             chained-append onL bs ((3 * k + 2) ∷ []) (some-open (k + 1) w o)
             (chained-same work onL bs (λ x i.
@@ -213,8 +214,8 @@ module _ (t k : ℕ) (work : List ℕ) (w : Word) (fits : 4 * t ≤ length work)
             ne,
           ),
           each-same work onR (links (k + 1) w) (λ x i.
-          in-R x x (inner-in (k + 1) w o x (omega arith) .0)
-          (inner-not-open (k + 1) w o x y (omega arith) (first-in bs some))) (h .linked),
+              in-R x x (inner-in (k + 1) w o x (omega arith) .0)
+              (inner-not-open (k + 1) w o x y (omega arith) (first-in bs some))) (h .linked),
         );
         mated =
             each-same work onR (mates (k + 1) w) (λ x i.
@@ -229,7 +230,8 @@ module _ (t k : ℕ) (work : List ℕ) (w : Word) (fits : 4 * t ≤ length work)
             in-R x 0 (open-in (k + 1) w o x (omega arith) .0)
             (rest-not-first bs (opens-once (k + 1) w o) x i)) (h .chain));
         records =
-            recorded-same t work onR (k + 1) w (λ i a b. in-R (3 * t + i) 0 (omega arith) (λ q. omega arith)) (h .records);
+            recorded-same t work onR (k + 1) w (λ i a b. in-R (3 * t + i) 0 (omega arith) (λ q. omega arith))
+            (h .records);
       }
 
   waits-R : (ws : List Word) (p : ℕ) → 4 * t ≤ p → Waits t work ws (k + 1 + size w) p

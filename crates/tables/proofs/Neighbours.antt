@@ -7,7 +7,7 @@ use native.Mathlib.Omega.{arith}
 use lib.ListN.{length}
 use lib.Seq.{ext-getD}
 use Rattle.theory.proofs.Chain.{Each, each-append}
-use Rattle.theory.proofs.Counting.{count, tris-in}
+use Rattle.theory.proofs.Counting.{tris-in}
 use Rattle.theory.proofs.JoinLaws.{Both, Join, ends-root, up}
 use Rattle.theory.proofs.JoinedTables.{settled}
 use Rattle.theory.proofs.ListLaws.{entry-any}

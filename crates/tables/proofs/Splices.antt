@@ -2,13 +2,13 @@
 -- word of the first two (`standing-S`).
 use mathlib.Core.List.{List, [], _++_, _∷_}
 use mathlib.Core.Logic.{_≢_}
-use mathlib.Core.Path.{_∙_, _≡_, ap, refl, subst, sym}
+use mathlib.Core.Path.{_∙_, _≡_, refl, subst, sym}
 use Prim.Native.Nat.{_*_, _+_, _-_, _<_, _≤_, suc, ℕ}
 use native.Mathlib.Omega.{arith}
 use lib.ListN.{getD, length, length-set, set}
 use lib.Seq.{getD-set-other, getD-set-same}
 use Rattle.tables.proofs.Chained.{chained-append, chained-same}
-use Rattle.tables.proofs.Corners.{each-same, first-in, inner-in, inner-not-open, join-left, join-off, join-right, last-in, length-join, open-in, opens-once, rest-not-first, some-open}
+use Rattle.tables.proofs.Corners.{each-same, first-in, inner-in, inner-not-open, join-left, join-off, join-right, length-join, open-in, opens-once, rest-not-first, some-open}
 use Rattle.tables.proofs.Held.{Held, Standing, Waits, held-same, recorded-same, waits-same}
 use Rattle.tables.specs.Fold.{Fold, foldE, foldS, pushed, spliced}
 use Rattle.theory.proofs.Chain.{each-append}
@@ -17,7 +17,7 @@ use Rattle.theory.proofs.JoinLaws.{Join}
 use Rattle.theory.proofs.Opens.{mates, opens}
 use Rattle.theory.proofs.WordLaws.{size-one}
 use Rattle.theory.specs.Corner.{opposite}
-use Rattle.theory.specs.Lists.{back, head, tail}
+use Rattle.theory.specs.Lists.{back, head}
 use Rattle.theory.specs.Tables.{joinAt, links}
 use Rattle.theory.specs.Word.{Word, size, wE, wS}
 
@@ -267,7 +267,8 @@ module _ (t k : ℕ) (work : List ℕ) (a b : Word) (fits : 4 * t ≤ length wor
         );
         mated = each-append J (mates (k + 1) a) (mates j b) (right-held .mated) (left-held .mated);
         chain =
-            chained-append onS cs bs (some-open (k + 1) a (h .sound)) (right-held .chain) (left-held .chain) first-entry;
+            chained-append onS cs bs (some-open (k + 1) a (h .sound)) (right-held .chain) (left-held .chain)
+            first-entry;
         records = (
           join-off (3 * k + 1) (3 * (k + 1)) tipped (3 * t + k) 0 (λ q. omega arith) (λ q. omega arith)
               ∙ join-off (3 * k + 2) (3 * j) noted (3 * t + k) 0 (λ q. omega arith) (λ q. omega arith)

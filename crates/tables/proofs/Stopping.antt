@@ -7,14 +7,14 @@
 --   never-stops    in a string that closes no letter stops it
 --   stops-C .. tests-S    the test, letter by letter
 use mathlib.Core.Bool.{Bool, _||_, false, not, true}
-use mathlib.Core.List.{List, [], _++_, _∷_, append-assoc, append-nil}
+use mathlib.Core.List.{List, [], _++_, _∷_, append-assoc}
 use mathlib.Core.Logic.{_⊎_, inl, inr}
-use mathlib.Core.Path.{_∙_, _≡_, ap, refl, subst, sym}
-use Prim.Native.Nat.{_*_, _<_, _≤_, suc, zero, ℕ}
+use mathlib.Core.Path.{_∙_, _≡_, ap, refl, sym}
+use Prim.Native.Nat.{_*_, _<_, _≤_, ℕ}
 use native.Mathlib.Decide.{ℕ-discrete}
 use native.Mathlib.Omega.{arith}
 use lib.Dec.{eqb, ltb}
-use lib.ListN.{getD, length}
+use lib.ListN.{length}
 use borrow.Author.Tests.{eq-eqb, eqb-false, eqb-true, le-ltb, lt-ltb, ltb-false, ltb-true, ne-eqb}
 use Rattle.tables.proofs.Enough.{Enough, Full}
 use Rattle.tables.specs.Fold.{stops}
@@ -22,7 +22,7 @@ use Rattle.theory.proofs.LetterLaws.{View, byte-is-letter, byte-letter, is, non
 use Rattle.theory.proofs.Reading.{Letters, letters-tail}
 use Rattle.theory.proofs.TestLaws.{not-both, not-is-false, not-is-true, or-cases, or-no}
 use Rattle.theory.specs.Letter.{byte, isLetter, letter}
-use Rattle.theory.specs.Word.{Word, before, spell, wC, wE, wL, wR, wS, words}
+use Rattle.theory.specs.Word.{Word, before, spell, words}
 use Rattle.theory.specs.declared.Letter.{Letter}
 use Rattle.theory.specs.declared.Letter.the-variants.{C, E, L, R, S}
 
@@ -98,7 +98,8 @@ module _ (b first last deep : ℕ) (ws : List Word) (is-deep : deep ≡ 3 * leng
       known (is a q l) = rw (l, q) (eq-eqb (byte a) (byte a) refl)
       known (none h) =
           let l = none-split b h in
-          let t = or-no (ltb deep 6) (not (eqb b (byte S))) (sym (ap (λ (a : Letter). stops a b first last deep) l) ∙ e) in
+          let t =
+          or-no (ltb deep 6) (not (eqb b (byte S))) (sym (ap (λ (a : Letter). stops a b first last deep) l) ∙ e) in
           let q = eqb-true b (byte S) (not-is-false (eqb b (byte S)) (t .1)) in
           ap isLetter q ∙ byte-is-letter S
 

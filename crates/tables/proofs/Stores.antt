@@ -4,7 +4,7 @@
 --   stores-splice                                  those of an S
 --   step-letter                                    by the letter that a byte stands for
 use mathlib.Core.List.{List}
-use mathlib.Core.Path.{_∙_, _≡_, ap, refl, sym}
+use mathlib.Core.Path.{_∙_, _≡_, refl}
 use Prim.Native.Nat.{_*_, _+_, _-_, _≤_, ℕ}
 use native.Mathlib.Omega.{arith}
 use lib.ListN.{getD, set}
@@ -40,7 +40,8 @@ module _ (k first last top : ℕ) (w : List ℕ) where
   unfolding foldIn foldS spliced
   stores-S t tip f l w′ a b d e = rw (e, a, b, d) refl
 
-pub stores-splice : (t k tip f last : ℕ) (w w₁ w₂ w₃ w₄ w₅ w₆ : List ℕ) → w₁ ≡ set w (3 * t + k) last → w₂ ≡ set w₁ f last
+pub stores-splice : (t k tip f last : ℕ) (w w₁ w₂ w₃ w₄ w₅ w₆ : List ℕ) → w₁ ≡ set w (3 * t + k) last
+    → w₂ ≡ set w₁ f last
     → w₃ ≡ set w₂ (3 * k + 2) tip → w₄ ≡ set w₃ tip (3 * k + 2) → w₅ ≡ set w₄ (3 * k + 1) (3 * (k + 1))
     → w₆ ≡ set w₅ (3 * k + 3) (3 * k + 1)
     → w₆ ≡ joinAt (3 * k + 1) (3 * (k + 1)) (joinAt (3 * k + 2) tip (set (set w (3 * t + k) last) f last))

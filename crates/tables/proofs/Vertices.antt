@@ -11,7 +11,6 @@ use Rattle.tables.proofs.Noted.{Noted}
 use Rattle.tables.specs.Fill.{Fill, afterFacing, atRight, beforeFacing, fillIn, fillRun, fillStep, fillV, resumed}
 use Rattle.theory.proofs.CornerLaws.{next-right, next-tip, previous-right, previous-tip}
 use Rattle.theory.proofs.HoldsWord.{holds-C}
-use Rattle.theory.proofs.Opens.{ends}
 use Rattle.theory.proofs.Rows.{Edges, agree, edges-snoc}
 use Rattle.theory.proofs.WordLaws.{root}
 use Rattle.theory.proofs.WordTables.{first-ends, holds-root, length-v, oppositeOf, rows}

@@ -1,9 +1,11 @@
--- The first pass, from the last letter to the first, in the lent work space: t triangles, corner c's entry of table O at c,
--- and the record of an S triangle k at 3t + k.
+-- The first pass, from the last letter to the first, in the lent work space: t triangles, corner c's entry of table O
+-- at c, and the record of an S triangle k at 3t + k.
 --
---   first last           the ends of the open sides of the word behind the letter; the entry of each of them but the first
+--   first last           the ends of the open sides of the word behind the letter; the entry of each of them but the
+--                        first
 --                        is the one before it, so that they are a list that is read from its last
---   top                  where the stack of the words behind that one stands: the tip, first and last of each, growing down
+--   top                  where the stack of the words behind that one stands: the tip, first and last of each, growing
+--                        down
 --   foldIn               what stands in the work space
 --   foldStep a t k z     one letter more, at triangle k
 --   Room                 room for a letter at triangle k
@@ -76,7 +78,8 @@ foldE k z =
       top = z .top - 3;
     }
 
--- the right branch is the word behind S and the left branch the next: its tip, first and last open side are tip, f and l
+-- the right branch is the word behind S and the left branch the next: its tip, first and last open side are tip, f and
+-- l
 unfoldable pub spliced : ℕ → ℕ → ℕ → ℕ → ℕ → Fold → Fold
 spliced t k tip f l z =
     record {
@@ -127,7 +130,8 @@ module _ (t : ℕ) (work : List ℕ) where
   Recorded k (wC w) = Recorded (k + 1) w
   Recorded k (wL w) = Recorded (k + 1) w
   Recorded k (wR w) = Recorded (k + 1) w
-  Recorded k (wS a b) = (getD work (3 * t + k) 0 ≡ back (opens (k + 1) a)) × Recorded (k + 1) a × Recorded (k + 1 + size a) b
+  Recorded k (wS a b) =
+      (getD work (3 * t + k) 0 ≡ back (opens (k + 1) a)) × Recorded (k + 1) a × Recorded (k + 1 + size a) b
 
 -- the work space holds table O of the string's word, and its records
 pub record Joined (s work : List ℕ) : Type 0 where

@@ -1,5 +1,6 @@
 // Tables from the letters of a string (document 01, "Tables from a string"): a pass from its end judges the widths and
-// joins the corners of its triangles in the work space; where the string closes, a pass from its start makes the vertices.
+// joins the corners of its triangles in the work space; where the string closes, a pass from its start makes the
+// vertices.
 //
 // The open sides of a word are a list that is linked through their own entries of table O. Each letter does what its
 // definition says; that this makes the tables of a string that closes is a law of the definitions.

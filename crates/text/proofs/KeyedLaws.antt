@@ -16,7 +16,6 @@ use borrow.Author.Tests.{eq-eqb, eqb-true, le-ltb, lt-ltb, ltb-true}
 use Rattle.text.proofs.LineLaws.{after-made, ended-made, lacks-append, line-lacks, line-made, up-le, up-made, up-split}
 use Rattle.text.specs.Line.{after, isKeyed, keyedSize, lacks, line, lineEnd, starts, upTo, valueOf}
 use Rattle.theory.proofs.TestLaws.{and-left, and-right}
-use Rattle.theory.specs.Answer.{whole}
 
 -- ---- keys
 

@@ -16,7 +16,6 @@ use Rattle.text.proofs.DecimalLaws.{allDigits-append, decimal-big, deci
 use Rattle.text.proofs.Induction.{snoc-induction}
 use Rattle.text.specs.Decimal.{allDigits, decimal, digitsAfter, found, isDigit, isNumber, leadsWell, missing, number, value, valueAfter}
 use Rattle.theory.proofs.TestLaws.{and-left, and-right}
-use Rattle.theory.specs.Lists.{front, some, tail}
 
 -- ---- read, then written
 

@@ -1,4 +1,5 @@
-// Meshes run: refusals with the work space looked at, every gate of every string of 2, 4 and 6 letters, and the largest.
+// Meshes run: refusals with the work space looked at, every gate of every string of 2, 4 and 6 letters, and the
+// largest.
 //
 // The work space is all nines before a call: how many nines and zeros it has after it.
 use trial::equal;

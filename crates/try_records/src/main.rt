@@ -1,4 +1,5 @@
-// Records that the reader takes and refuses, each printed as unpack prints it; and records that are written and read back.
+// Records that the reader takes and refuses, each printed as unpack prints it; and records that are written and read
+// back.
 fn main() {
     small();
     more();

@@ -1,4 +1,5 @@
--- The loop of `spell_out`: the letters and the corners of the first k steps kept are written, the others are still to come.
+-- The loop of `spell_out`: the letters and the corners of the first k steps kept are written, the others are still to
+-- come.
 --
 --   Spelling          the loop's invariant
 --   begun turn end    before the loop, a turn, after it

@@ -7,7 +7,8 @@
 --   marked-past mark     a store outside the vertices leaves the marks; one at the tip of a C makes the mark
 --   cleared-off          what is cleared is off
 --   no-visits gate       a table that is off, with the gate's two ends marked, stands for no steps
---   kept-low kept-high kept-more    what is kept from 3t on: stores below and above leave it, one at its end is one more
+--   kept-low kept-high kept-more    what is kept from 3t on: stores below and above leave it, one at its end is one
+--                                   more
 use mathlib.Core.Bool.{Bool, _||_, false, true}
 use mathlib.Core.List.{List, [], _++_, _∷_}
 use mathlib.Core.Logic.{_≢_, _⊎_, inl, inr}

@@ -217,6 +217,7 @@ module _ {vs os : List ℕ} {v g long : ℕ} {work : List ℕ} {c p n k : ℕ} (
             rw (triangle-tip j) at (seen-reached (opposite os) t g (i .steps) (s .made) (3 * j)
             (sym (s .visited (3 * j) (omega arith)) ∙ ap (on work) (triangle-tip j) ∙ e));
         present = λ u l e.
-            marked-present (vertex vs) t (opposite os) g (i .steps) (s .made) (s .mesh .gate) u (sym (s .marked u l) ∙ e);
+            marked-present (vertex vs) t (opposite os) g (i .steps) (s .made) (s .mesh .gate) u
+            (sym (s .marked u l) ∙ e);
         whole = λ mesh. all-on s (walk-covers mesh (i .steps) (i .behind) (i .made ∙ sym m));
       }

@@ -1,7 +1,8 @@
 -- What the functions of this crate ask and promise.
 --
 --   Steppable   a step can be made at corner c: everything that it reads and stores lies in the tables
---   Stepped     it is the walk's own step, whatever steps the table stands for; the stack grows by at most one, and what
+--   Stepped     it is the walk's own step, whatever steps the table stands for; the stack grows by at most one, and
+--               what
 --               is kept from 3t on stays
 --   Traceable   tables that can be walked, and room for the walk
 --   Traced      the walk is kept, and what is on in the table tells of the mesh: triangles reached, vertices present;

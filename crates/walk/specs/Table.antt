@@ -1,5 +1,5 @@
--- What the walk keeps in its work table: t numbers for the triangles, v for the vertices, from 3t on the steps made, and
--- from p on the waiting lefts.
+-- What the walk keeps in its work table: t numbers for the triangles, v for the vertices, from 3t on the steps made,
+-- and from p on the waiting lefts.
 --
 --   on work i     entry i is not 0
 --   AllOn         the first n entries are on

@@ -1,7 +1,7 @@
 // The encoder's loop (document 01, "Walk and letters"): t steps at most from the gate corner, each with its letter.
 //
-// work is one table: work[k] for triangle k, work[t + u] for vertex u, not 0 where visited or marked; the steps made stand
-// from 3t on; the waiting lefts are a stack that grows down from its end, its top at p.
+// work is one table: work[k] for triangle k, work[t + u] for vertex u, not 0 where visited or marked; the steps made
+// stand from 3t on; the waiting lefts are a stack that grows down from its end, its top at p.
 ghost use mathlib.Core.Path.{_≡_};
 ghost use Prim.Native.Nat.{_+_, _*_, _≤_, _<_};
 ghost use lib.ListN.{length, set};

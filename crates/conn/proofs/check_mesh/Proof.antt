@@ -1,5 +1,5 @@
--- `check_mesh` meets its promise: 1 and 2 stop it before any work, else it answers as the mesh's checks do and clears the
--- work space.
+-- `check_mesh` meets its promise: 1 and 2 stop it before any work, else it answers as the mesh's checks do and clears
+-- the work space.
 use mathlib.Core.Path.{_∙_, ap, sym}
 use Prim.Native.Nat.{ℕ}
 use lib.ListN.{replicate}
@@ -17,7 +17,9 @@ refuse-requires : tie.Need-refuse-requires
 refuse-requires c κs = search needs
 
 returns : tie.Need-returns
-returns c = checks-kept (stopped-first (sym (c .before .before .shape-ok .ensures) ∙ not-true _ (c .before .if1 .taken)) (c .refuse .ensures))
+returns c =
+    checks-kept (stopped-first (sym (c .before .before .shape-ok .ensures) ∙ not-true _ (c .before .if1 .taken))
+    (c .refuse .ensures))
 
 mul-if2 : tie.Need-mul-if2
 mul-if2 c = search needs
@@ -26,10 +28,15 @@ refuse-requires-2 : tie.Need-refuse-requires-2
 refuse-requires-2 c κs = search needs
 
 returns-2 : tie.Need-returns-2
-returns-2 c = checks-kept (stopped-second (sym (c .before .before .before .shape-ok .ensures) ∙ not-false _ (c .before .before .if1 .left)) (lt-leb _ _ (c .before .if2 .taken)) (c .refuse2 .ensures))
+returns-2 c =
+    checks-kept (stopped-second (sym (c .before .before .before .shape-ok .ensures) ∙ not-false _
+    (c .before .before .if1 .left)) (lt-leb _ _ (c .before .if2 .taken)) (c .refuse2 .ensures))
 
 judge-requires : tie.Need-judge-requires
-judge-requires c κs = (sym (c .before .before .before .shape-ok .ensures) ∙ not-false _ (c .before .before .if1 .left), c .before .if2 .left)
+judge-requires c κs = (
+  sym (c .before .before .before .shape-ok .ensures) ∙ not-false _ (c .before .before .if1 .left),
+  c .before .if2 .left,
+)
 
 clear-requires : tie.Need-clear-requires
 clear-requires c κs = search needs

@@ -19,7 +19,9 @@ refuse-requires : tie.Need-refuse-requires
 refuse-requires c κs = search needs
 
 returns : tie.Need-returns
-returns c = judges-kept (stopped-first (sym (c .before .before .count-ok .ensures) ∙ not-true _ (c .before .if1 .taken)) (c .refuse .ensures))
+returns c =
+    judges-kept (stopped-first (sym (c .before .before .count-ok .ensures) ∙ not-true _ (c .before .if1 .taken))
+    (c .refuse .ensures))
 
 mul-if2 : tie.Need-mul-if2
 mul-if2 c = omega (arith, count-few _ (sym (c .before .count-ok .ensures) ∙ not-false _ (c .if1 .left)))
@@ -28,10 +30,15 @@ refuse-requires-2 : tie.Need-refuse-requires-2
 refuse-requires-2 c κs = search needs
 
 returns-2 : tie.Need-returns-2
-returns-2 c = judges-kept (stopped-second (sym (c .before .before .before .count-ok .ensures) ∙ not-false _ (c .before .before .if1 .left)) (lt-leb _ _ (c .before .if2 .taken)) (c .refuse2 .ensures))
+returns-2 c =
+    judges-kept (stopped-second (sym (c .before .before .before .count-ok .ensures) ∙ not-false _
+    (c .before .before .if1 .left)) (lt-leb _ _ (c .before .if2 .taken)) (c .refuse2 .ensures))
 
 judge-letters-requires : tie.Need-judge-letters-requires
-judge-letters-requires c κs = (count-few _ (sym (c .before .before .before .count-ok .ensures) ∙ not-false _ (c .before .before .if1 .left)) .2, omega arith)
+judge-letters-requires c κs = (
+  count-few _ (sym (c .before .before .before .count-ok .ensures) ∙ not-false _ (c .before .before .if1 .left)) .2,
+  omega arith,
+)
 
 clear-requires : tie.Need-clear-requires
 clear-requires c κs = search needs

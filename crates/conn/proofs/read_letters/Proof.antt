@@ -1,6 +1,6 @@
--- `read_letters` meets its contract: where the letters do not close, the checks name the refusal before a table is touched;
--- where they do, the tables are built in the first 3t entries that were lent.
-use mathlib.Core.Path.{_∙_, ap, refl, sym}
+-- `read_letters` meets its contract: where the letters do not close, the checks name the refusal before a table is
+-- touched; where they do, the tables are built in the first 3t entries that were lent.
+use mathlib.Core.Path.{_∙_, ap, sym}
 use native.Mathlib.Omega.{arith}
 use lib.ListN.{replicate}
 use lib.Seq.{length-take-le}
@@ -32,7 +32,8 @@ returns c =
     let broken = judged .before .before in
     let folded = broken .before .before .before in
     letters-kept (judged .judge-letters .ensures) (folded .fold .ensures .refuses (not-true _ (broken .if1 .taken)))
-    (cleared .clear .ensures ∙ ap (λ (n : ℕ). replicate n 0) (judged .judge-letters .kept .1 .0 ∙ folded .fold .kept .1 .0))
+    (cleared .clear .ensures ∙ ap (λ (n : ℕ). replicate n 0)
+    (judged .judge-letters .kept .1 .0 ∙ folded .fold .kept .1 .0))
 
 mul-n : tie.Need-mul-n
 mul-n c = search needs
@@ -99,7 +100,8 @@ returns-2 c =
     let done = built .before .before .before .before in
     let folded = done .before .before .before in
     let lent = folded .before .before .before .before .before .before .pre in
-    letters-made (folded .fold .ensures .closes (not-false _ (done .if1 .left))) (c .accept .ensures) (built .build .ensures)
+    letters-made (folded .fold .ensures .closes (not-false _ (done .if1 .left))) (c .accept .ensures)
+    (built .build .ensures)
     (built .build .kept .1 .1 .0 ∙ length-take-le _ _ (lent .vertices))
     (built .build .kept .1 .1 .1 .0 ∙ length-take-le _ _ (lent .neighbours))
     (cleared .clear2 .ensures ∙ ap (λ (n : ℕ). replicate n 0) (folded .fold .kept .1 .0))

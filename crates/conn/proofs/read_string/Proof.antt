@@ -17,7 +17,8 @@ refuse-requires c κs = search needs
 
 returns : tie.Need-returns
 returns c = let first = c .refuse .ensures in
-    reads-kept (stopped-first (sym (c .before .before .count-ok .ensures) ∙ not-true _ (c .before .if1 .taken)) first) (refusal 0 0 first)
+    reads-kept (stopped-first (sym (c .before .before .count-ok .ensures) ∙ not-true _ (c .before .if1 .taken)) first)
+    (refusal 0 0 first)
 
 mul-enough : tie.Need-mul-enough
 mul-enough c = omega (arith, count-few _ (sym (c .before .count-ok .ensures) ∙ not-false _ (c .if1 .left)))
@@ -37,10 +38,14 @@ refuse-requires-2 c κs = search needs
 returns-2 : tie.Need-returns-2
 returns-2 c = let short = sym (c .before .before .enough .ensures) ∙ not-true _ (c .before .if2 .taken) in
     let second = c .refuse2 .ensures in
-    reads-kept (stopped-second (sym (c .before .before .before .before .count-ok .ensures) ∙ not-false _ (c .before .before .before .if1 .left)) short second) (refusal 1 0 second)
+    reads-kept (stopped-second (sym (c .before .before .before .before .count-ok .ensures) ∙ not-false _
+    (c .before .before .before .if1 .left)) short second) (refusal 1 0 second)
 
 read-letters-requires : tie.Need-read-letters-requires
-read-letters-requires c κs = read-room (sym (c .before .before .before .before .before .before .count-ok .ensures) ∙ not-false _ (c .before .before .before .before .before .if1 .left)) (sym (c .before .before .before .before .enough .ensures) ∙ not-false _ (c .before .before .before .if2 .left))
+read-letters-requires c κs =
+    read-room (sym (c .before .before .before .before .before .before .count-ok .ensures) ∙ not-false _
+    (c .before .before .before .before .before .if1 .left)) (sym (c .before .before .before .before .enough .ensures)
+    ∙ not-false _ (c .before .before .before .if2 .left))
 
 same-length : tie.Need-same-length
 same-length c = search needs
@@ -52,7 +57,8 @@ same-length-3 : tie.Need-same-length-3
 same-length-3 c = search needs
 
 returns-3 : tie.Need-returns-3
-returns-3 c = reads-rest (sym (c .before .before .before .before .before .before .before .before .before .before .before .before .before .count-ok .ensures) ∙ not-false _ (c .before .before .before .before .before .before .before .before .before .before .before .before .if1 .left)) (sym (c .before .before .before .before .before .before .before .before .before .before .before .enough .ensures) ∙ not-false _ (c .before .before .before .before .before .before .before .before .before .before .if2 .left))
+returns-3 c =
+    reads-rest (sym (c .before .before .before .before .before .before .before .before .before .before .before .before .before .count-ok .ensures) ∙ not-false _ (c .before .before .before .before .before .before .before .before .before .before .before .before .if1 .left)) (sym (c .before .before .before .before .before .before .before .before .before .before .before .enough .ensures) ∙ not-false _ (c .before .before .before .before .before .before .before .before .before .before .if2 .left))
     (c .before .before .before .before .before .before .read-letters .ensures)
 
 pub read-string-spec : {M : Type 1} → statement M

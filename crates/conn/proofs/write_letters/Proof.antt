@@ -1,5 +1,5 @@
--- `write_letters` meets its contract: a refusal is answered before an output is touched; the walk of an accepted mesh, which
--- the judge kept, is spelt out. The work space is cleared once, at the end.
+-- `write_letters` meets its contract: a refusal is answered before an output is touched; the walk of an accepted mesh,
+-- which the judge kept, is spelt out. The work space is cleared once, at the end.
 use mathlib.Core.Path.{_∙_, ap}
 use native.Mathlib.Omega.{arith}
 use lib.ListN.{replicate}

@@ -15,7 +15,8 @@ refuse-requires c κs = search needs
 
 returns : tie.Need-returns
 returns c = let first = c .refuse .ensures in
-    writes-kept (stopped-first (sym (c .before .before .shape-ok .ensures) ∙ not-true _ (c .before .if1 .taken)) first) (refusal 0 0 first)
+    writes-kept (stopped-first (sym (c .before .before .shape-ok .ensures) ∙ not-true _ (c .before .if1 .taken)) first)
+    (refusal 0 0 first)
 
 mul-enough : tie.Need-mul-enough
 mul-enough c = search needs
@@ -29,10 +30,14 @@ refuse-requires-2 c κs = search needs
 returns-2 : tie.Need-returns-2
 returns-2 c = let short = sym (c .before .before .enough .ensures) ∙ not-true _ (c .before .if2 .taken) in
     let second = c .refuse2 .ensures in
-    writes-kept (stopped-second (sym (c .before .before .before .before .shape-ok .ensures) ∙ not-false _ (c .before .before .before .if1 .left)) short second) (refusal 1 0 second)
+    writes-kept (stopped-second (sym (c .before .before .before .before .shape-ok .ensures) ∙ not-false _
+    (c .before .before .before .if1 .left)) short second) (refusal 1 0 second)
 
 write-letters-requires : tie.Need-write-letters-requires
-write-letters-requires c κs = write-room (sym (c .before .before .before .before .before .before .shape-ok .ensures) ∙ not-false _ (c .before .before .before .before .before .if1 .left)) (sym (c .before .before .before .before .enough .ensures) ∙ not-false _ (c .before .before .before .if2 .left))
+write-letters-requires c κs =
+    write-room (sym (c .before .before .before .before .before .before .shape-ok .ensures) ∙ not-false _
+    (c .before .before .before .before .before .if1 .left)) (sym (c .before .before .before .before .enough .ensures)
+    ∙ not-false _ (c .before .before .before .if2 .left))
 
 same-length : tie.Need-same-length
 same-length c = search needs
@@ -44,7 +49,8 @@ same-length-3 : tie.Need-same-length-3
 same-length-3 c = search needs
 
 returns-3 : tie.Need-returns-3
-returns-3 c = writes-rest (sym (c .before .before .before .before .before .before .before .before .before .before .before .before .before .shape-ok .ensures) ∙ not-false _ (c .before .before .before .before .before .before .before .before .before .before .before .before .if1 .left)) (sym (c .before .before .before .before .before .before .before .before .before .before .before .enough .ensures) ∙ not-false _ (c .before .before .before .before .before .before .before .before .before .before .if2 .left))
+returns-3 c =
+    writes-rest (sym (c .before .before .before .before .before .before .before .before .before .before .before .before .before .shape-ok .ensures) ∙ not-false _ (c .before .before .before .before .before .before .before .before .before .before .before .before .if1 .left)) (sym (c .before .before .before .before .before .before .before .before .before .before .before .enough .ensures) ∙ not-false _ (c .before .before .before .before .before .before .before .before .before .before .if2 .left))
     (c .before .before .before .before .before .before .write-letters .ensures)
 
 pub write-string-spec : {M : Type 1} → statement M

@@ -15,7 +15,11 @@ unfolding previous
 opposite-of-requires c κs = omega (arith, c .previous-of .ensures)
 
 returns : tie.Need-returns
-returns c = (c .opposite-of .ensures .0 ∙ ap (λ (d : ℕ). opposite (c .before .before .before .args .os .now) d) (c .before .previous-of .ensures), c .opposite-of .ensures .1)
+returns c = (
+  c .opposite-of .ensures .0 ∙ ap (λ (d : ℕ). opposite (c .before .before .before .args .os .now) d)
+      (c .before .previous-of .ensures),
+  c .opposite-of .ensures .1,
+)
 
 pub left-of-spec : {M : Type 1} → statement M
 left-of-spec = tie.close (tie.spec previous-of-requires opposite-of-requires returns)

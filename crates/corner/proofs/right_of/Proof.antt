@@ -15,7 +15,11 @@ unfolding next
 opposite-of-requires c κs = omega (arith, c .next-of .ensures)
 
 returns : tie.Need-returns
-returns c = (c .opposite-of .ensures .0 ∙ ap (λ (d : ℕ). opposite (c .before .before .before .args .os .now) d) (c .before .next-of .ensures), c .opposite-of .ensures .1)
+returns c = (
+  c .opposite-of .ensures .0 ∙ ap (λ (d : ℕ). opposite (c .before .before .before .args .os .now) d)
+      (c .before .next-of .ensures),
+  c .opposite-of .ensures .1,
+)
 
 pub right-of-spec : {M : Type 1} → statement M
 right-of-spec = tie.close (tie.spec next-of-requires opposite-of-requires returns)

@@ -20,7 +20,9 @@ same-length-3 : tie.Need-same-length-3
 same-length-3 c = search needs
 
 returns : tie.Need-returns
-returns c = opens-carried (c .with-gate .ensures) (c .before .before .before .before .before .before .before .read-record .ensures)
+returns c =
+    opens-carried (c .with-gate .ensures)
+    (c .before .before .before .before .before .before .before .read-record .ensures)
 
 pub last-read-record-spec : {M : Type 1} → statement M
 last-read-record-spec =

@@ -20,7 +20,8 @@ same-length-3 : tie.Need-same-length-3
 same-length-3 c = search needs
 
 returns : tie.Need-returns
-returns c = reads-carried (c .bare .ensures) (c .before .before .before .before .before .before .before .read-string .ensures)
+returns c =
+    reads-carried (c .bare .ensures) (c .before .before .before .before .before .before .before .read-string .ensures)
 
 pub last-read-string-spec : {M : Type 1} → statement M
 last-read-string-spec =

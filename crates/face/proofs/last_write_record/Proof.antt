@@ -20,4 +20,5 @@ returns : tie.Need-returns
 returns c = packs-carried (c .with-length .ensures) (c .before .before .before .before .before .write-record .ensures)
 
 pub last-write-record-spec : {M : Type 1} → statement M
-last-write-record-spec = tie.close (tie.spec write-record-requires with-length-requires same-length same-length-2 returns)
+last-write-record-spec =
+    tie.close (tie.spec write-record-requires with-length-requires same-length same-length-2 returns)

@@ -20,7 +20,8 @@ same-length-3 : tie.Need-same-length-3
 same-length-3 c = search needs
 
 returns : tie.Need-returns
-returns c = writes-carried (c .bare .ensures) (c .before .before .before .before .before .before .before .write-string .ensures)
+returns c =
+    writes-carried (c .bare .ensures) (c .before .before .before .before .before .before .before .write-string .ensures)
 
 pub last-write-string-spec : {M : Type 1} → statement M
 last-write-string-spec =

@@ -6,7 +6,7 @@ use lib.ListN.{getD, length}
 use borrow.Author.Needs.{needs}
 use Rattle.judge.proofs.Forward.{no-letter, ours}
 use Rattle.theory.proofs.LeastLaws.{Before, scan-end, scan-stop, scan-turn}
-use Rattle.theory.specs.Letter.{byte, isLetter}
+use Rattle.theory.specs.Letter.{isLetter}
 use Rattle.judge.proofs.first_foreign.Statement.{statement}
 use Rattle.judge.proofs.first_foreign.Tie as tie
 

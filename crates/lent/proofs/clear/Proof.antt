@@ -32,8 +32,12 @@ loop-less c = search needs
 
 loop-again : tie.Need-loop-again Inv-loop μ-loop
 loop-again c =
-    let w = c .before .before .args .work .now in
-    (omega arith, simp length-set (omega arith), rw (c .before .loop .inv .2) (fill-more (c .before .loop .i) 0 w (omega arith)))
+    let w = c .before .before .args .work .now in (
+      omega arith,
+      simp length-set (omega arith),
+      rw (c .before .loop .inv .2)
+          (fill-more (c .before .loop .i) 0 w (omega arith)),
+    )
 
 same-length : tie.Need-same-length Inv-loop μ-loop
 same-length c = search needs

@@ -25,7 +25,8 @@ returns : tie.Need-returns
 returns c =
     let s = c .before .before .before .before .before in
     ap (λ (l : List ℕ). l ++ drop (s .args .n) (s .args .work .now))
-    (c .before .before .clear .ensures ∙ ap (λ (m : ℕ). replicate m 0) (length-take-le (s .args .n) (s .args .work .now) (s .pre)))
+    (c .before .before .clear .ensures ∙ ap (λ (m : ℕ). replicate m 0)
+    (length-take-le (s .args .n) (s .args .work .now) (s .pre)))
 
 pub clear-front-spec : {M : Type 1} → statement M
 clear-front-spec =

@@ -4,7 +4,6 @@ use native.Mathlib.Omega.{arith}
 use lib.ListN.{length}
 use borrow.Author.Needs.{needs}
 use Rattle.mesh.proofs.SearchTables.{agrees, front-zeros}
-use Rattle.theory.proofs.ListLaws.{third}
 use Rattle.theory.specs.Corner.{inside}
 use Rattle.mesh.proofs.first_unreached.Statement.{statement}
 use Rattle.mesh.proofs.first_unreached.Tie as tie

@@ -2,7 +2,6 @@
 use native.Mathlib.Omega.{arith}
 use borrow.Author.Needs.{needs}
 use Rattle.mesh.proofs.Branches.{ends-off, ends-on}
-use Rattle.mesh.proofs.SearchTables.{low}
 use Rattle.mesh.proofs.glued_at.Statement.{statement}
 use Rattle.mesh.proofs.glued_at.Tie as tie
 

@@ -2,7 +2,6 @@
 use native.Mathlib.Omega.{arith}
 use borrow.Author.Needs.{needs}
 use Rattle.mesh.proofs.Judging.{doubled-stops, gate-stops, later-left, over-stops, pairing-found, surface-found, unglued-stops, unpaired-stops}
-use Rattle.theory.proofs.CornerLaws.{three}
 use Rattle.theory.proofs.MeshLaws.{shape-of}
 use Rattle.mesh.proofs.judge_mesh.Statement.{statement}
 use Rattle.mesh.proofs.judge_mesh.Tie as tie

@@ -29,8 +29,12 @@ first-unreached-requires : tie.Need-first-unreached-requires
 first-unreached-requires c κs =
     let one = c .before .before .before .before .before in
     let s = one .before .before .before .before .before in
-    let same = s .pre .0 .same in
-    (pairing (s .pre .0), omega (arith, s .pre .1, same, c .before .wide .ensures), omega (arith, s .pre .2, same), omega (arith, s .pre .3, s .pre .4, same, one .first-unringed .kept .1 .1 .1 .0))
+    let same = s .pre .0 .same in (
+      pairing (s .pre .0),
+      omega (arith, s .pre .1, same, c .before .wide .ensures),
+      omega (arith, s .pre .2, same),
+      omega (arith, s .pre .3, s .pre .4, same, one .first-unringed .kept .1 .1 .1 .0),
+    )
 
 cast-refuse : tie.Need-cast-refuse
 cast-refuse c = search needs

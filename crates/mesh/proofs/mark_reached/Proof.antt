@@ -34,8 +34,14 @@ spread-at-requires c κs =
     let a = s .args in
     let v = c .before .before .loop .inv in
     let big : a .t + a .t + 3 ≤ length (first .meet .last .0) = omega (arith, first .meet .kept .0) in
-    let more = c .before .loop-test .taken in
-    (s .pre .0, low (a .t) (a .os .now) (a .a) _ _ _ (s .pre .0) big v, more, s .pre .2, waiting (a .t) (a .os .now) (a .a) _ _ _ (s .pre .0) big v more)
+    let more = c .before .loop-test .taken in (
+      s .pre .0,
+      low (a .t) (a .os .now) (a .a) _ _ _ (s .pre .0) big v,
+      more,
+      s .pre .2,
+      waiting (a .t) (a .os .now)
+          (a .a) _ _ _ (s .pre .0) big v more,
+    )
 
 loop-less : tie.Need-loop-less Inv-loop μ-loop
 loop-less c =

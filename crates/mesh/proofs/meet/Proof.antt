@@ -39,14 +39,22 @@ same-length c = search needs
 returns : tie.Need-returns
 returns c =
     let s = c .before .before in
-    let a = s .args in
-    (omega arith, omega arith, met-new (a .t) (a .p) (a .x) (a .work .now) (s .pre .0) (s .pre .1) (s .pre .2) (c .if1 .taken))
+    let a = s .args in (
+      omega arith,
+      omega arith,
+      met-new (a .t) (a .p) (a .x) (a .work .now) (s .pre .0) (s .pre .1) (s .pre .2)
+          (c .if1 .taken),
+    )
 
 returns-2 : tie.Need-returns-2
 returns-2 c =
     let s = c .before .before in
-    let a = s .args in
-    (omega arith, omega arith, met-old (a .t) (a .p) (a .x) (a .work .now) (s .pre .0) (s .pre .1) (s .pre .2) (c .if1 .left))
+    let a = s .args in (
+      omega arith,
+      omega arith,
+      met-old (a .t) (a .p) (a .x) (a .work .now) (s .pre .0) (s .pre .1) (s .pre .2)
+          (c .if1 .left),
+    )
 
 pub meet-spec : {M : Type 1} → statement M
 meet-spec =

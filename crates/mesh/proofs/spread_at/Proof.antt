@@ -2,7 +2,6 @@
 use native.Mathlib.Omega.{arith}
 use borrow.Author.Needs.{needs}
 use Rattle.mesh.proofs.SearchTables.{neighbour, spread-same}
-use Rattle.theory.proofs.ListLaws.{third}
 use Rattle.mesh.proofs.spread_at.Statement.{statement}
 use Rattle.mesh.proofs.spread_at.Tie as tie
 
@@ -24,8 +23,12 @@ beyond-requires c κs = search needs
 meet-requires : tie.Need-meet-requires
 meet-requires c κs =
     let s = c .before .before .before .before .before .before in
-    let k = c .before .before .wide .ensures in
-    (neighbour (s .args .t) (s .args .os .now) _ _ _ 0 (s .pre .0) k (s .pre .4) (omega arith) (c .beyond .ensures), omega arith, omega arith, omega arith)
+    let k = c .before .before .wide .ensures in (
+      neighbour (s .args .t) (s .args .os .now) _ _ _ 0 (s .pre .0) k (s .pre .4) (omega arith) (c .beyond .ensures),
+      omega arith,
+      omega arith,
+      omega arith,
+    )
 
 beyond-requires-2 : tie.Need-beyond-requires-2
 beyond-requires-2 c κs = search needs
@@ -33,17 +36,27 @@ beyond-requires-2 c κs = search needs
 meet-requires-2 : tie.Need-meet-requires-2
 meet-requires-2 c κs =
     let s = c .before .before .before .before .before .before .before .before .before .before .before in
-    let k = c .before .before .before .before .before .before .before .wide .ensures in
-    (neighbour (s .args .t) (s .args .os .now) _ _ _ 1 (s .pre .0) k (s .pre .4) (omega arith) (c .beyond2 .ensures), omega arith, omega arith, omega arith)
+    let k = c .before .before .before .before .before .before .before .wide .ensures in (
+      neighbour (s .args .t) (s .args .os .now) _ _ _ 1 (s .pre .0) k (s .pre .4) (omega arith) (c .beyond2 .ensures),
+      omega arith,
+      omega arith,
+      omega arith,
+    )
 
 beyond-requires-3 : tie.Need-beyond-requires-3
 beyond-requires-3 c κs = search needs
 
 meet-requires-3 : tie.Need-meet-requires-3
 meet-requires-3 c κs =
-    let s = c .before .before .before .before .before .before .before .before .before .before .before .before .before .before .before .before in
-    let k = c .before .before .before .before .before .before .before .before .before .before .before .before .wide .ensures in
-    (neighbour (s .args .t) (s .args .os .now) _ _ _ 2 (s .pre .0) k (s .pre .4) (omega arith) (c .beyond3 .ensures), omega arith, omega arith, omega arith)
+    let s =
+    c .before .before .before .before .before .before .before .before .before .before .before .before .before .before .before .before in
+    let k =
+    c .before .before .before .before .before .before .before .before .before .before .before .before .wide .ensures in (
+      neighbour (s .args .t) (s .args .os .now) _ _ _ 2 (s .pre .0) k (s .pre .4) (omega arith) (c .beyond3 .ensures),
+      omega arith,
+      omega arith,
+      omega arith,
+    )
 
 same-length : tie.Need-same-length
 same-length c = search needs

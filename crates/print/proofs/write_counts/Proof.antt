@@ -44,7 +44,8 @@ slice-aggregate-write-bytes c = search needs
 write-bytes-requires : tie.Need-write-bytes-requires
 unfolding countsLine
 write-bytes-requires c κs =
-    let s = c .before .before .before .before .before .before .before .before .before .before .before .before .before .before .before .before .before .before in
+    let s =
+    c .before .before .before .before .before .before .before .before .before .before .before .before .before .before .before .before .before .before in
     let a = s .args in
     four-fourth (a .out .now) (a .at) (triPiece (a .t)) (verPiece (a .v)) (gatePiece (a .gate)) ended (s .pre)
     (c .before .before .before .before .before .before .before .before .before .before .before .before .before .before .write-numbered .ensures) (c .before .before .before .before .before .before .before .before .before .write-numbered2 .ensures) (c .before .before .before .before .write-numbered3 .ensures)
@@ -55,7 +56,8 @@ same-length c = search needs
 returns : tie.Need-returns
 unfolding countsLine
 returns c =
-    let s = c .before .before .before .before .before .before .before .before .before .before .before .before .before .before .before .before .before .before .before .before .before in
+    let s =
+    c .before .before .before .before .before .before .before .before .before .before .before .before .before .before .before .before .before .before .before .before .before in
     let a = s .args in
     four-done (a .out .now) (a .at) (triPiece (a .t)) (verPiece (a .v)) (gatePiece (a .gate)) ended (s .pre)
     (c .before .before .before .before .before .before .before .before .before .before .before .before .before .before .before .before .before .write-numbered .ensures) (c .before .before .before .before .before .before .before .before .before .before .before .before .write-numbered2 .ensures) (c .before .before .before .before .before .before .before .write-numbered3 .ensures) (c .before .before .write-bytes .ensures)

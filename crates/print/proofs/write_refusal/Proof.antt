@@ -44,7 +44,8 @@ same-length c = search needs
 returns : tie.Need-returns
 unfolding refusalLine
 returns c =
-    let s = c .before .before .before .before .before .before .before .before .before .before .before .before .before .before .before .before in
+    let s =
+    c .before .before .before .before .before .before .before .before .before .before .before .before .before .before .before .before in
     let a = s .args in
     three-done (a .out .now) (a .at) (refusedPiece (a .number)) (placePiece (a .place)) ended (s .pre)
     (c .before .before .before .before .before .before .before .before .before .before .before .before .write-numbered .ensures) (c .before .before .before .before .before .before .before .write-numbered2 .ensures) (c .before .before .write-bytes .ensures)

@@ -44,7 +44,8 @@ same-length c = search needs
 returns : tie.Need-returns
 unfolding three
 returns c =
-    let s = c .before .before .before .before .before .before .before .before .before .before .before .before .before .before .before .before in
+    let s =
+    c .before .before .before .before .before .before .before .before .before .before .before .before .before .before .before .before in
     let a = s .args in
     three-done (a .out .now) (a .at) (numbered (a .key .now) (a .a)) (numbered comma (a .b)) (numbered comma (a .d))
     (s .pre)

@@ -86,7 +86,8 @@ shared-slice-read-write-three-6 c = search needs
 write-three-requires-2 : tie.Need-write-three-requires-2
 unfolding triangleLine
 write-three-requires-2 c κs =
-    let s = c .before .before .before .before .before .before .before .before .before .before .before .before .before .before .before .before .before .before .before .before .before in
+    let s =
+    c .before .before .before .before .before .before .before .before .before .before .before .before .before .before .before .before .before .before .before .before .before in
     let a = s .args in
     four-third (a .out .now) (a .at) (kPiece (a .k)) (vPiece (a .vs .now) (3 * a .k))
     (oPiece (a .os .now) (3 * a .k)) ended (s .pre .2)
@@ -98,7 +99,8 @@ slice-aggregate-write-bytes c = search needs
 write-bytes-requires : tie.Need-write-bytes-requires
 unfolding triangleLine
 write-bytes-requires c κs =
-    let s = c .before .before .before .before .before .before .before .before .before .before .before .before .before .before .before .before .before .before .before .before .before .before .before .before .before .before in
+    let s =
+    c .before .before .before .before .before .before .before .before .before .before .before .before .before .before .before .before .before .before .before .before .before .before .before .before .before .before in
     let a = s .args in
     four-fourth (a .out .now) (a .at) (kPiece (a .k)) (vPiece (a .vs .now) (3 * a .k))
     (oPiece (a .os .now) (3 * a .k)) ended (s .pre .2)
@@ -110,7 +112,8 @@ same-length c = search needs
 returns : tie.Need-returns
 unfolding triangleLine
 returns c =
-    let s = c .before .before .before .before .before .before .before .before .before .before .before .before .before .before .before .before .before .before .before .before .before .before .before .before .before .before .before .before .before in
+    let s =
+    c .before .before .before .before .before .before .before .before .before .before .before .before .before .before .before .before .before .before .before .before .before .before .before .before .before .before .before .before .before in
     let a = s .args in
     four-done (a .out .now) (a .at) (kPiece (a .k)) (vPiece (a .vs .now) (3 * a .k))
     (oPiece (a .os .now) (3 * a .k)) ended (s .pre .2)

@@ -27,7 +27,9 @@ same-length-3 : tie.Need-same-length-3
 same-length-3 c = search needs
 
 returns : tie.Need-returns
-returns c = record-refused (c .before .before .before .before .before .before .before .before .before .read-record .ensures) (c .before .if1 .taken)
+returns c =
+    record-refused (c .before .before .before .before .before .before .before .before .before .read-record .ensures)
+    (c .before .if1 .taken)
 
 unwritten-requires-2 : tie.Need-unwritten-requires-2
 unwritten-requires-2 c κs = search needs
@@ -42,11 +44,15 @@ same-length-6 : tie.Need-same-length-6
 same-length-6 c = search needs
 
 returns-2 : tie.Need-returns-2
-returns-2 c = let opened = c .before .before .before .before .before .before .before .before .before .before .before .read-record .ensures in
-    record-refused opened (head-refused opened _ (c .before .before .before .before .before .before .before .before .before .before .before .before .before .before .before .read-head .ensures) (c .before .if2 .taken))
+returns-2 c =
+    let opened =
+    c .before .before .before .before .before .before .before .before .before .before .before .read-record .ensures in
+    record-refused opened (head-refused opened _
+    (c .before .before .before .before .before .before .before .before .before .before .before .before .before .before .before .read-head .ensures) (c .before .if2 .taken))
 
 end-of-requires : tie.Need-end-of-requires
-end-of-requires c κs = head-inside _ _ (c .before .before .before .before .before .before .before .before .before .before .before .before .before .before .read-head .ensures) (c .if2 .left)
+end-of-requires c κs =
+    head-inside _ _ (c .before .before .before .before .before .before .before .before .before .before .before .before .before .before .read-head .ensures) (c .if2 .left)
 
 sub-write-record : tie.Need-sub-write-record
 sub-write-record c = search needs
@@ -55,7 +61,13 @@ part-write-record-start : tie.Need-part-write-record-start
 part-write-record-start c = search needs
 
 part-write-record-end : tie.Need-part-write-record-end
-part-write-record-end c = omega (arith, c .end-of .ensures, head-inside _ _ (c .before .before .before .before .before .before .before .before .before .before .before .before .before .before .before .read-head .ensures) (c .before .if2 .left))
+part-write-record-end c =
+    omega (
+      arith,
+      c .end-of .ensures,
+      head-inside _ _
+          (c .before .before .before .before .before .before .before .before .before .before .before .before .before .before .before .read-head .ensures) (c .before .if2 .left),
+    )
 
 write-record-requires : tie.Need-write-record-requires
 write-record-requires c κs = search needs
@@ -73,8 +85,12 @@ same-length-10 : tie.Need-same-length-10
 same-length-10 c = search needs
 
 returns-3 : tie.Need-returns-3
-returns-3 c = let bytes = c .before .before .before .before .before .before .before .before .before .before .before .before .before .before .before .before .before .before .before .before .before .before .before .before .before .before .before .before .before .args .bytes .now in
-    let part = head-letters bytes _ _ (c .before .before .before .before .before .before .before .before .before .before .before .before .before .before .before .before .before .before .before .before .before .before .before .read-head .ensures) (c .before .before .before .before .before .before .before .before .before .if2 .left) (c .before .before .before .before .before .before .before .before .end-of .ensures) in
+returns-3 c =
+    let bytes =
+    c .before .before .before .before .before .before .before .before .before .before .before .before .before .before .before .before .before .before .before .before .before .before .before .before .before .before .before .before .before .args .bytes .now in
+    let part =
+    head-letters bytes _ _
+    (c .before .before .before .before .before .before .before .before .before .before .before .before .before .before .before .before .before .before .before .before .before .before .before .read-head .ensures) (c .before .before .before .before .before .before .before .before .before .if2 .left) (c .before .before .before .before .before .before .before .before .end-of .ensures) in
     record-returned (c .before .before .before .before .before .before .before .before .before .before .before .before .before .before .before .before .before .before .before .read-record .ensures) part (c .before .before .before .before .write-record .ensures)
 
 pub record-again-spec : {M : Type 1} → statement M

@@ -30,7 +30,8 @@ same-length-5 : tie.Need-same-length-5
 same-length-5 c = search needs
 
 returns : tie.Need-returns
-returns c = (c .before .before .before .before .before .before .before .before .before .before .before .before .before .before .before .before .before .before .write-string .ensures .answer, second-answer _ (c .before .before .before .before .before .before .before .before .write-string2 .ensures) (c .before .before .before .before .before .before .before .before .before .before .before .before .before .before .before .before .before .before .write-string .kept .1 .1 .1 .1 .1 .1 .0), not-compared (λ p q. c .if1 .taken p))
+returns c =
+    (c .before .before .before .before .before .before .before .before .before .before .before .before .before .before .before .before .before .before .write-string .ensures .answer, second-answer _ (c .before .before .before .before .before .before .before .before .write-string2 .ensures) (c .before .before .before .before .before .before .before .before .before .before .before .before .before .before .before .before .before .before .write-string .kept .1 .1 .1 .1 .1 .1 .0), not-compared (λ p q. c .if1 .taken p))
 
 same-length-6 : tie.Need-same-length-6
 same-length-6 c = search needs
@@ -48,19 +49,45 @@ same-length-10 : tie.Need-same-length-10
 same-length-10 c = search needs
 
 returns-2 : tie.Need-returns-2
-returns-2 c = (c .before .before .before .before .before .before .before .before .before .before .before .before .before .before .before .before .before .before .before .before .write-string .ensures .answer, second-answer _ (c .before .before .before .before .before .before .before .before .before .before .write-string2 .ensures) (c .before .before .before .before .before .before .before .before .before .before .before .before .before .before .before .before .before .before .before .before .write-string .kept .1 .1 .1 .1 .1 .1 .0), not-compared (λ p q. c .if2 .taken q))
+returns-2 c =
+    (c .before .before .before .before .before .before .before .before .before .before .before .before .before .before .before .before .before .before .before .before .write-string .ensures .answer, second-answer _ (c .before .before .before .before .before .before .before .before .before .before .write-string2 .ensures) (c .before .before .before .before .before .before .before .before .before .before .before .before .before .before .before .before .before .before .before .before .write-string .kept .1 .1 .1 .1 .1 .1 .0), not-compared (λ p q. c .if2 .taken q))
 
 slice-reshare-prefix-same : tie.Need-slice-reshare-prefix-same
-slice-reshare-prefix-same c = omega (arith, write-was-done (c .before .before .before .before .before .before .before .before .before .before .before .before .before .before .before .before .before .before .before .before .write-string .ensures) (c .before .before .if1 .left) .string, c .before .before .before .before .before .before .before .before .before .before .before .before .before .before .before .before .before .before .before .before .write-string .kept .1 .1 .1 .1 .0)
+slice-reshare-prefix-same c =
+    omega (
+      arith,
+      write-was-done
+          (c .before .before .before .before .before .before .before .before .before .before .before .before .before .before .before .before .before .before .before .before .write-string .ensures) (c .before .before .if1 .left) .string,
+      c .before .before .before .before .before .before .before .before .before .before .before .before .before .before .before .before .before .before .before .before .write-string .kept .1 .1 .1 .1 .0,
+    )
 
 slice-aggregate-same : tie.Need-slice-aggregate-same
-slice-aggregate-same c = sym (length-take-le _ _ (omega (arith, write-was-done (c .before .before .before .before .before .before .before .before .before .before .before .before .before .before .before .before .before .before .before .before .before .write-string .ensures) (c .before .before .before .if1 .left) .string, c .before .before .before .before .before .before .before .before .before .before .before .before .before .before .before .before .before .before .before .before .before .write-string .kept .1 .1 .1 .1 .0)))
+slice-aggregate-same c =
+    sym (length-take-le _ _ (omega (
+      arith,
+      write-was-done
+          (c .before .before .before .before .before .before .before .before .before .before .before .before .before .before .before .before .before .before .before .before .before .write-string .ensures) (c .before .before .before .if1 .left) .string,
+      c .before .before .before .before .before .before .before .before .before .before .before .before .before .before .before .before .before .before .before .before .before .write-string .kept .1 .1 .1 .1 .0,
+    )))
 
 slice-reshare-prefix-same-2 : tie.Need-slice-reshare-prefix-same-2
-slice-reshare-prefix-same-2 c = omega (arith, write-was-done (c .before .before .before .before .before .before .before .before .before .before .before .write-string2 .ensures) (c .before .if2 .left) .string, c .before .before .before .before .before .before .before .before .before .before .before .write-string2 .kept .1 .1 .1 .1 .0)
+slice-reshare-prefix-same-2 c =
+    omega (
+      arith,
+      write-was-done
+          (c .before .before .before .before .before .before .before .before .before .before .before .write-string2 .ensures)
+          (c .before .if2 .left) .string,
+      c .before .before .before .before .before .before .before .before .before .before .before .write-string2 .kept .1 .1 .1 .1 .0,
+    )
 
 slice-aggregate-same-2 : tie.Need-slice-aggregate-same-2
-slice-aggregate-same-2 c = sym (length-take-le _ _ (omega (arith, write-was-done (c .before .before .before .before .before .before .before .before .before .before .before .before .write-string2 .ensures) (c .before .before .if2 .left) .string, c .before .before .before .before .before .before .before .before .before .before .before .before .write-string2 .kept .1 .1 .1 .1 .0)))
+slice-aggregate-same-2 c =
+    sym (length-take-le _ _ (omega (
+      arith,
+      write-was-done
+          (c .before .before .before .before .before .before .before .before .before .before .before .before .write-string2 .ensures) (c .before .before .if2 .left) .string,
+      c .before .before .before .before .before .before .before .before .before .before .before .before .write-string2 .kept .1 .1 .1 .1 .0,
+    )))
 
 same-requires : tie.Need-same-requires
 same-requires c κs = search needs

@@ -20,13 +20,28 @@ same-length-3 : tie.Need-same-length-3
 same-length-3 c = search needs
 
 returns : tie.Need-returns
-returns c = written-refused (c .before .before .before .before .before .before .before .before .write-string .ensures) (c .if1 .taken)
+returns c =
+    written-refused (c .before .before .before .before .before .before .before .before .write-string .ensures)
+    (c .if1 .taken)
 
 slice-reshare-prefix-read-string : tie.Need-slice-reshare-prefix-read-string
-slice-reshare-prefix-read-string c = omega (arith, write-was-done (c .before .before .before .before .before .before .before .before .write-string .ensures) (c .if1 .left) .string, c .before .before .before .before .before .before .before .before .write-string .kept .1 .1 .1 .1 .0)
+slice-reshare-prefix-read-string c =
+    omega (
+      arith,
+      write-was-done
+          (c .before .before .before .before .before .before .before .before .write-string .ensures) (c .if1 .left) .string,
+      c .before .before .before .before .before .before .before .before .write-string .kept .1 .1 .1 .1 .0,
+    )
 
 slice-aggregate-read-string : tie.Need-slice-aggregate-read-string
-slice-aggregate-read-string c = sym (length-take-le _ _ (omega (arith, write-was-done (c .before .before .before .before .before .before .before .before .before .write-string .ensures) (c .before .if1 .left) .string, c .before .before .before .before .before .before .before .before .before .write-string .kept .1 .1 .1 .1 .0)))
+slice-aggregate-read-string c =
+    sym (length-take-le _ _ (omega (
+      arith,
+      write-was-done
+          (c .before .before .before .before .before .before .before .before .before .write-string .ensures)
+          (c .before .if1 .left) .string,
+      c .before .before .before .before .before .before .before .before .before .write-string .kept .1 .1 .1 .1 .0,
+    )))
 
 read-string-requires : tie.Need-read-string-requires
 read-string-requires c κs = search needs
@@ -47,7 +62,8 @@ same-length-8 : tie.Need-same-length-8
 same-length-8 c = search needs
 
 returns-2 : tie.Need-returns-2
-returns-2 c = written-returned (c .before .before .before .before .before .before .before .before .before .before .before .before .before .before .before .before .before .before .before .write-string .ensures) (λ h. c .before .before .before .before .before .before .read-string .ensures)
+returns-2 c =
+    written-returned (c .before .before .before .before .before .before .before .before .before .before .before .before .before .before .before .before .before .before .before .write-string .ensures) (λ h. c .before .before .before .before .before .before .read-string .ensures)
 
 pub write-read-spec : {M : Type 1} → statement M
 write-read-spec =

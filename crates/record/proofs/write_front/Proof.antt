@@ -39,7 +39,8 @@ write-bytes-requires-2 c κs =
 write-decimal-requires-2 : tie.Need-write-decimal-requires-2
 unfolding frontText
 write-decimal-requires-2 c κs =
-    let s = c .before .before .before .before .before .before .before .before .before .before .before .before .before .before .before .before in
+    let s =
+    c .before .before .before .before .before .before .before .before .before .before .before .before .before .before .before .before in
     let a = s .args in
     four-fourth (a .out .now) (a .at) formTri (decimal (a .t)) endGate (decimal (a .gate)) (s .pre)
     (c .before .before .before .before .before .before .before .before .before .before .before .before .write-bytes .ensures) (c .before .before .before .before .before .before .before .before .write-decimal .ensures) (c .before .before .before .write-bytes2 .ensures)
@@ -50,7 +51,8 @@ same-length c = search needs
 returns : tie.Need-returns
 unfolding frontText
 returns c =
-    let s = c .before .before .before .before .before .before .before .before .before .before .before .before .before .before .before .before .before .before .before in
+    let s =
+    c .before .before .before .before .before .before .before .before .before .before .before .before .before .before .before .before .before .before .before in
     let a = s .args in
     four-done (a .out .now) (a .at) formTri (decimal (a .t)) endGate (decimal (a .gate)) (s .pre)
     (c .before .before .before .before .before .before .before .before .before .before .before .before .before .before .before .write-bytes .ensures) (c .before .before .before .before .before .before .before .before .before .before .before .write-decimal .ensures) (c .before .before .before .before .before .before .write-bytes2 .ensures) (c .before .before .write-decimal2 .ensures)

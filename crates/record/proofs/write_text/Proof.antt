@@ -38,7 +38,8 @@ slice-aggregate-write-bytes-2 c = search needs
 
 write-bytes-requires-3 : tie.Need-write-bytes-requires-3
 write-bytes-requires-3 c κs =
-    let s = c .before .before .before .before .before .before .before .before .before .before .before .before .before .before .before .before .before in
+    let s =
+    c .before .before .before .before .before .before .before .before .before .before .before .before .before .before .before .before .before in
     let a = s .args in
     four-fourth (a .out .now) (a .at) (frontText (a .t) (a .gate)) endSym (a .letters .now) ended
     (record-room (a .out .now) (a .at) (a .t) (a .gate) (a .letters .now) (s .pre))
@@ -49,7 +50,8 @@ same-length c = search needs
 
 returns : tie.Need-returns
 returns c =
-    let s = c .before .before .before .before .before .before .before .before .before .before .before .before .before .before .before .before .before .before .before .before in
+    let s =
+    c .before .before .before .before .before .before .before .before .before .before .before .before .before .before .before .before .before .before .before .before in
     let a = s .args in
     record-wrote (a .out .now) (a .at) (a .t) (a .gate) (a .letters .now)
     (four-done (a .out .now) (a .at) (frontText (a .t) (a .gate)) endSym (a .letters .now) ended

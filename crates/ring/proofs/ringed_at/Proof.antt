@@ -36,8 +36,11 @@ wide-requires c κs = search needs
 away-for-requires : tie.Need-away-for-requires
 away-for-requires c κs =
     let s = c .before .before .before .before .before .before .before in
-    let a = s .args in
-    (pairing (s .pre .0), rw (c .wide .ensures) (ring-start (a .vs .now) (a .os .now) (a .work .now) (a .u) (s .pre .0) (s .pre .1) (s .pre .3) (c .before .before .if1 .left)))
+    let a = s .args in (
+      pairing (s .pre .0),
+      rw (c .wide .ensures) (ring-start (a .vs .now) (a .os .now) (a .work .now) (a .u) (s .pre .0)
+          (s .pre .1) (s .pre .3) (c .before .before .if1 .left)),
+    )
 
 returns-2 : tie.Need-returns-2
 returns-2 c =
@@ -45,7 +48,8 @@ returns-2 c =
     let a = s .args in
     ring-same (a .vs .now) (a .os .now) (a .work .now) (a .u) (s .pre .0) (s .pre .1) (s .pre .3)
     (c .before .before .before .if1 .left) _
-    (c .away-for .ensures ∙ ap (λ (d : ℕ). awayFor (a .os .now) d (getD (a .work .now) (a .u) 0)) (c .before .wide .ensures))
+    (c .away-for .ensures ∙ ap (λ (d : ℕ). awayFor (a .os .now) d (getD (a .work .now) (a .u) 0))
+    (c .before .wide .ensures))
 
 pub ringed-at-spec : {M : Type 1} → statement M
 ringed-at-spec =

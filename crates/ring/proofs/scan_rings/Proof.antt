@@ -7,7 +7,6 @@ use borrow.Author.Tests.{not-false, not-true}
 use Rattle.ring.proofs.Turns.{rings-full}
 use Rattle.theory.proofs.LeastLaws.{Before, least-all, scan-stop, scan-turn}
 use Rattle.theory.specs.Mesh.{ringedAt}
-use Rattle.theory.specs.Word.{before}
 use Rattle.ring.proofs.scan_rings.Statement.{statement}
 use Rattle.ring.proofs.scan_rings.Tie as tie
 

@@ -27,7 +27,13 @@ add-work : tie.Need-add-work
 add-work c =
     let s = c .before .before .before .before .before .before in
     let u = c .before .before .wide .ensures in
-    omega (arith, s .pre .1, s .pre .3 (rw (← u) (c .before .if1 .taken)), ap (λ (i : ℕ). getD (s .args .work .now) i 0) u)
+    omega (
+      arith,
+      s .pre .1,
+      s .pre .3 (rw (← u) (c .before .if1 .taken)),
+      ap (λ (i : ℕ). getD (s .args .work .now) i 0)
+          u,
+    )
 
 mul-work : tie.Need-mul-work
 mul-work c = search needs

@@ -27,8 +27,13 @@ tally-requires : tie.Need-tally-requires Inv-loop μ-loop
 tally-requires c κs =
     let s = c .before .before .before .before .before in
     let i = c .before .before .loop .inv in
-    let p = c .before .loop-test .taken in
-    (omega (arith, i .0, p), s .pre .0, omega (arith, s .pre .1, i .1), λ l. tally-fits (s .args .vs .now) _ _ _ p (i .0) (i .2) l)
+    let p = c .before .loop-test .taken in (
+      omega (arith, i .0, p),
+      s .pre .0,
+      omega (arith, s .pre .1, i .1),
+      λ l. tally-fits (s .args .vs .now) _ _ _ p
+          (i .0) (i .2) l,
+    )
 
 loop-less : tie.Need-loop-less Inv-loop μ-loop
 loop-less c = search needs
@@ -38,8 +43,12 @@ loop-again c =
     let s = c .before .before .before .before .before .before .before .before in
     let i = c .before .before .before .before .before .loop .inv in
     let p = c .before .before .before .before .loop-test .taken in
-    let call = c .before .before .tally in
-    (omega (arith, i .0), call .kept .1 .0 ∙ i .1, tally-again (s .args .vs .now) _ _ _ p (i .0) (omega (arith, s .pre .1, i .1)) (i .2) (call .ensures))
+    let call = c .before .before .tally in (
+      omega (arith, i .0),
+      call .kept .1 .0 ∙ i .1,
+      tally-again (s .args .vs .now) _ _ _ p (i .0)
+          (omega (arith, s .pre .1, i .1)) (i .2) (call .ensures),
+    )
 
 same-length : tie.Need-same-length Inv-loop μ-loop
 same-length c = c .before .loop .inv .1

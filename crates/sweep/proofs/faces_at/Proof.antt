@@ -1,5 +1,4 @@
 -- `faces_at` meets its contract, branch by branch.
-use native.Mathlib.Omega.{arith}
 use borrow.Author.Needs.{needs}
 use Rattle.sweep.proofs.Facing.{before-in, faces-ends, faces-off, faces-out}
 use Rattle.sweep.proofs.faces_at.Statement.{statement}
@@ -37,7 +36,8 @@ returns-2 c =
     let w = t .before in
     let s = w .before .before .before .before in
     let a = s .args in
-    faces-off (a .vs .now) (a .os .now) (a .c) (a .a) _ (s .pre .1) (w .wide .ensures) (t .if1 .left) _ (e .wide2 .ensures) (c .if2 .taken)
+    faces-off (a .vs .now) (a .os .now) (a .c) (a .a) _ (s .pre .1) (w .wide .ensures) (t .if1 .left) _
+    (e .wide2 .ensures) (c .if2 .taken)
 
 previous-of-requires : tie.Need-previous-of-requires
 previous-of-requires c κs = search needs
@@ -66,7 +66,8 @@ returns-3 c =
     let w = t .before in
     let s = w .before .before .before .before in
     let a = s .args in
-    faces-ends (a .vs .now) (a .os .now) (a .c) (a .a) _ (s .pre .1) (w .wide .ensures) (t .if1 .left) _ (e .wide2 .ensures) (n .if2 .left) _ (p .previous-of .ensures)
+    faces-ends (a .vs .now) (a .os .now) (a .c) (a .a) _ (s .pre .1) (w .wide .ensures) (t .if1 .left) _
+    (e .wide2 .ensures) (n .if2 .left) _ (p .previous-of .ensures)
 
 pub faces-at-spec : {M : Type 1} → statement M
 faces-at-spec =

@@ -37,7 +37,8 @@ returns-2 c =
     let j = c .before .before in
     let e = j .before .before in
     let w = e .before .before .before in
-    judged-closer (w .walks .ensures) (e .if1 .left) (w .before .before .before .before .before .pre .0) _ (j .judge-mesh .ensures)
+    judged-closer (w .walks .ensures) (e .if1 .left) (w .before .before .before .before .before .pre .0) _
+    (j .judge-mesh .ensures)
 
 pub judge-spec : {M : Type 1} → statement M
 judge-spec =

@@ -36,8 +36,11 @@ loop-less c = search needs
 loop-again : tie.Need-loop-again Inv-loop μ-loop
 loop-again c =
     let s = c .before in
-    let i = s .before in
-    (omega (arith, i .loop-test .taken), one-more (i .before .loop .inv .1) (said-yes (s .sound-at .ensures) (not-false _ (c .if1 .left))))
+    let i = s .before in (
+      omega (arith, i .loop-test .taken),
+      one-more (i .before .loop .inv .1)
+          (said-yes (s .sound-at .ensures) (not-false _ (c .if1 .left))),
+    )
 
 returns-2 : tie.Need-returns-2 Inv-loop μ-loop
 returns-2 c = holds (up-to (c .before .loop .inv .1) (c .loop-test .left))

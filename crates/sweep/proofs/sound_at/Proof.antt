@@ -1,5 +1,4 @@
 -- `sound_at` meets its contract: a test that is failed is a part of the rules that fails.
-use mathlib.Core.Path.{sym}
 use native.Mathlib.Omega.{arith}
 use borrow.Author.Needs.{needs}
 use borrow.Author.Tests.{not-false, not-true}

@@ -43,7 +43,8 @@ trace-requires c κs =
     let e1 = e2 .before .before in
     let w = e1 .before in
     let s = w .before .before .before .before in
-    swept-walkable (swept (s .pre .0) (w .wide .ensures) (e1 .if1 .left) (e2 .before .wide2 .ensures) (e2 .if2 .left) (e3 .before .sound .ensures) (e3 .if3 .left))
+    swept-walkable (swept (s .pre .0) (w .wide .ensures) (e1 .if1 .left) (e2 .before .wide2 .ensures) (e2 .if2 .left)
+    (e3 .before .sound .ensures) (e3 .if3 .left))
     (s .pre .1)
 
 wide-requires-3 : tie.Need-wide-requires-3
@@ -58,7 +59,15 @@ all-on-requires c κs =
     let e2 = t .before .before .before .before in
     let s = e2 .before .before .before .before .before .before .before in
     let h = shape-of (s .args .vs .now) (s .args .os .now) (s .pre .0) in
-    omega (arith, h .two, e2 .if2 .left, e2 .before .wide2 .ensures, c .wide3 .ensures, s .pre .1, t .trace .kept .1 .1 .1 .1 .0)
+    omega (
+      arith,
+      h .two,
+      e2 .if2 .left,
+      e2 .before .wide2 .ensures,
+      c .wide3 .ensures,
+      s .pre .1,
+      t .trace .kept .1 .1 .1 .1 .0,
+    )
 
 same-length : tie.Need-same-length
 same-length c = search needs
@@ -71,7 +80,8 @@ returns-4 c =
     let e1 = e2 .before .before in
     let w = e1 .before in
     let s = w .before .before .before .before in
-    kept-walk _ (swept (s .pre .0) (w .wide .ensures) (e1 .if1 .left) (e2 .before .wide2 .ensures) (e2 .if2 .left) (e3 .before .sound .ensures) (e3 .if3 .left))
+    kept-walk _ (swept (s .pre .0) (w .wide .ensures) (e1 .if1 .left) (e2 .before .wide2 .ensures) (e2 .if2 .left)
+    (e3 .before .sound .ensures) (e3 .if3 .left))
     (t .trace .ensures) (c .before .wide3 .ensures) (c .all-on .ensures)
 
 pub walks-spec : {M : Type 1} → statement M

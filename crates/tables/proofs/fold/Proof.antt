@@ -1,5 +1,6 @@
--- `fold` meets its contract: the loop reads the letters from the right (`Folding`); where it stops no string closes, and one
--- that does not is left with more words than one, or with another width. The measure is what is left of the string.
+-- `fold` meets its contract: the loop reads the letters from the right (`Folding`); where it stops no string closes,
+-- and one that does not is left with more words than one, or with another width. The measure is what is left of the
+-- string.
 use mathlib.Core.Path.{_∙_, _≡_, refl, sym}
 use native.Mathlib.Omega.{arith}
 use lib.ListN.{length}
@@ -10,7 +11,8 @@ use Rattle.tables.proofs.fold.Statement.{statement}
 use Rattle.tables.proofs.fold.Tie as tie
 
 abbrev Inv-loop : tie.InvT-loop
-Inv-loop s work₀ t end first₀ last₀ top₀ i₀ work first last top i = (t ≡ length s) × (end ≡ length work) × Folding s work₀ work first last top i
+Inv-loop s work₀ t end first₀ last₀ top₀ i₀ work first last top i =
+    (t ≡ length s) × (end ≡ length work) × Folding s work₀ work first last top i
 
 abbrev μ-loop : tie.MeasureT-loop
 μ-loop s work₀ t end first₀ last₀ top₀ i₀ work first last top i = i
@@ -43,7 +45,9 @@ returns c =
     let turn = test .before .before in
     let start = turn .before .before .before .before in
     let inv = turn .before .loop .inv in
-    let stop = folding-stop _ _ _ _ _ _ _ (start .pre) (inv .2) (turn .loop-test .taken) _ (inv .1) (sym (test .stops .ensures) ∙ c .if1 .taken) in
+    let stop =
+    folding-stop _ _ _ _ _ _ _ (start .pre) (inv .2) (turn .loop-test .taken) _ (inv .1)
+    (sym (test .stops .ensures) ∙ c .if1 .taken) in
     stopped _ stop _
 
 sub-step : tie.Need-sub-step Inv-loop μ-loop
@@ -114,7 +118,8 @@ returns-4 c =
     let loop = same .before .before in
     let start = loop .before .before .before .before in
     let inv = loop .before .loop .inv in
-    folded-done _ _ _ _ _ _ _ (start .pre) (inv .2) (loop .loop-test .left) _ (inv .1) (same .before .if2 .left) (same .if3 .left) _ (join .join .ensures)
+    folded-done _ _ _ _ _ _ _ (start .pre) (inv .2) (loop .loop-test .left) _ (inv .1) (same .before .if2 .left)
+    (same .if3 .left) _ (join .join .ensures)
 
 pub fold-spec : {M : Type 1} → statement M
 fold-spec =

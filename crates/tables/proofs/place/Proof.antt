@@ -37,7 +37,8 @@ returns c =
     let second = third .before .before .before .before in
     let first = second .before .before .before .before in
     let a = first .before .before .before .args in
-    placed (a .k) (a .x) (a .l) (a .r) (a .vs .now) _ _ _ (first .put .ensures) (second .put2 .ensures) (third .put3 .ensures)
+    placed (a .k) (a .x) (a .l) (a .r) (a .vs .now) _ _ _ (first .put .ensures) (second .put2 .ensures)
+    (third .put3 .ensures)
 
 pub place-spec : {M : Type 1} → statement M
 place-spec =

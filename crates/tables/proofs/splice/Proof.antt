@@ -76,7 +76,8 @@ returns c =
     let two = three .before .before .before .before in
     let one = two .before .before .before .before in
     let a = one .before .before .before .args in
-    stores-splice (a .t) (a .k) (a .tip) (a .f) (a .last) (a .work .now) _ _ _ _ _ _ (one .put .ensures) (two .put2 .ensures) (three .put3 .ensures) (four .put4 .ensures)
+    stores-splice (a .t) (a .k) (a .tip) (a .f) (a .last) (a .work .now) _ _ _ _ _ _ (one .put .ensures)
+    (two .put2 .ensures) (three .put3 .ensures) (four .put4 .ensures)
     (five .put5 .ensures) (six .put6 .ensures)
 
 pub splice-spec : {M : Type 1} → statement M

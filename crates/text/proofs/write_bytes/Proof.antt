@@ -7,7 +7,6 @@ use lib.ListN.{length, length-set}
 use lib.Seq.{paste, paste-suc, paste-zero}
 use borrow.Author.Needs.{needs}
 use Rattle.text.proofs.PutLaws.{put-paste}
-use Rattle.theory.proofs.CornerLaws.{place}
 use Rattle.text.proofs.write_bytes.Statement.{statement}
 use Rattle.text.proofs.write_bytes.Tie as tie
 

@@ -5,7 +5,6 @@ use lib.ListN.{length-set}
 use borrow.Author.Needs.{needs}
 use Rattle.text.proofs.DecimalLaws.{decimal-some}
 use Rattle.text.proofs.Writing.{Writing, writing-end, writing-next, writing-room, writing-start}
-use Rattle.theory.proofs.CornerLaws.{place}
 use Rattle.text.proofs.write_decimal.Statement.{statement}
 use Rattle.text.proofs.write_decimal.Tie as tie
 

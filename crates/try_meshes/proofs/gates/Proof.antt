@@ -8,7 +8,8 @@ use Rattle.try_meshes.proofs.gates.Statement.{statement}
 use Rattle.try_meshes.proofs.gates.Tie as tie
 
 abbrev Inv-loop : tie.InvT-loop
-Inv-loop kind n s vs os v out₀ walk₀ work₀ found₀ g₀ out walk work found g = (g ≤ n) × (length out ≡ length out₀) × (length walk ≡ length walk₀) × (length work ≡ length work₀)
+Inv-loop kind n s vs os v out₀ walk₀ work₀ found₀ g₀ out walk work found g = (g ≤ n) × (length out ≡ length out₀)
+    × (length walk ≡ length walk₀) × (length work ≡ length work₀)
 
 abbrev μ-loop : tie.MeasureT-loop
 μ-loop kind n s vs os v out₀ walk₀ work₀ found₀ g₀ out walk work found g = n - g

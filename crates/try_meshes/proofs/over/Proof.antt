@@ -10,7 +10,8 @@ use Rattle.try_meshes.proofs.over.Tie as tie
 
 abbrev Inv-loop : tie.InvT-loop
 Inv-loop kind total s₀ vs₀ os₀ out₀ walk₀ work₀ found₀ n₀ s vs os out walk work found n =
-    (n ≤ total) × (length s ≡ length s₀) × (length vs ≡ length vs₀) × (length os ≡ length os₀) × (length out ≡ length out₀) × (length walk ≡ length walk₀) × (length work ≡ length work₀)
+    (n ≤ total) × (length s ≡ length s₀) × (length vs ≡ length vs₀) × (length os ≡ length os₀)
+    × (length out ≡ length out₀) × (length walk ≡ length walk₀) × (length work ≡ length work₀)
 
 abbrev μ-loop : tie.MeasureT-loop
 μ-loop kind total s₀ vs₀ os₀ out₀ walk₀ work₀ found₀ n₀ s vs os out walk work found n = total - n

@@ -8,7 +8,9 @@ use Rattle.try_strings.proofs.accepted.Statement.{statement}
 use Rattle.try_strings.proofs.accepted.Tie as tie
 
 abbrev Inv-loop : tie.InvT-loop
-Inv-loop total s₀ vs₀ os₀ work₀ found₀ n₀ s vs os work found n = (n ≤ total) × (length s ≡ length s₀) × (length vs ≡ length vs₀) × (length os ≡ length os₀) × (length work ≡ length work₀)
+Inv-loop total s₀ vs₀ os₀ work₀ found₀ n₀ s vs os work found n =
+    (n ≤ total) × (length s ≡ length s₀) × (length vs ≡ length vs₀) × (length os ≡ length os₀)
+    × (length work ≡ length work₀)
 
 abbrev μ-loop : tie.MeasureT-loop
 μ-loop total s₀ vs₀ os₀ work₀ found₀ n₀ s vs os work found n = total - n

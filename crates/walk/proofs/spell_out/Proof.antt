@@ -1,4 +1,5 @@
--- `spell_out` meets its contract: the invariant says which letters and corners are written. The steps to come get fewer.
+-- `spell_out` meets its contract: the invariant says which letters and corners are written. The steps to come get
+-- fewer.
 use mathlib.Core.Path.{refl}
 use native.Mathlib.Omega.{arith}
 use borrow.Author.Needs.{needs}

@@ -1,5 +1,5 @@
--- `trace` meets its contract: the invariant says that the walk is the steps made, which are kept, and those to come. The
--- number of steps that may follow falls.
+-- `trace` meets its contract: the invariant says that the walk is the steps made, which are kept, and those to come.
+-- The number of steps that may follow falls.
 use native.Mathlib.Omega.{arith}
 use borrow.Author.Needs.{needs}
 use Rattle.walk.proofs.Tracing.{Tracing, at-fits, end, front-fits, gated, keep-fits, start, steppable, turn}
@@ -35,7 +35,8 @@ loop-holds c =
     let m = c .before .before in
     let f = m .before .before .before .before in
     let w = f .before .before .before in
-    start (w .before .before .before .before .pre) (w .wide .ensures) (f .before .wide2 .ensures) (f .clear-front .ensures) (m .mark-gate .ensures)
+    start (w .before .before .before .before .pre) (w .wide .ensures) (f .before .wide2 .ensures)
+    (f .clear-front .ensures) (m .mark-gate .ensures)
 
 sub-step : tie.Need-sub-step Inv-loop μ-loop
 sub-step c = search needs
