@@ -61,11 +61,10 @@ module _ (s w₀ w : List ℕ) (top p i : ℕ) (inv : Folding s w₀ w top p i) 
       record { room = omega arith; within = inv .within; low = folded-wide (inv .folded) .0; small = omega arith }
 
   pub folds-turn : (w′ : List ℕ) (r : Tops) → length w′ ≡ length w → Turned (getD s (i - 1) 0) w top p w′ r
-      → (r .top ≡ 0 → ⊥) → Folding s w₀ w′ (r .top) (r .at) (i - 1)
+      → 2 ≤ r .top → Folding s w₀ w′ (r .top) (r .at) (i - 1)
   unfolding head
-  folds-turn w′ r same turned n =
+  folds-turn w′ r same turned some =
       let b = getD s (i - 1) 0 in
-      let some : 0 < r .top = omega arith in
       let e = turned .stack some in
       let longer : length w′ - r .at ≤ length w - p + 1 =
       omega (arith, ap length e, length-drop (r .at) w′, length-drop p w, before-length (letter b) (top ∷ drop p w))

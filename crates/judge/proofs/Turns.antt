@@ -1,6 +1,6 @@
 -- What `turn` answers, for each byte: the widths with the byte before their words, the first width apart.
 --
---   halts                     no answer: a C before width 2, an S before one word, no letter
+--   halts                     no answer: an S before one word, no letter
 --   lowers raises adds joins  C, L or R, E, S
 use mathlib.Core.List.{List, _∷_}
 use mathlib.Core.Path.{_∙_, _≡_, ap, refl, sym}
@@ -28,31 +28,28 @@ halts e h =
       stack = λ k. absurd (omega arith);
     }
 
-takes : {work work′ : List ℕ} {top p : ℕ} {r : Tops} (a : Letter) → r .at ≤ length work′ → (a ≡ C → 3 ≤ top)
+takes : {work work′ : List ℕ} {top p : ℕ} {r : Tops} (a : Letter) → r .at ≤ length work′ → (2 ≤ r .top → a ≡ C → 3 ≤ top)
     → r .top ∷ drop (r .at) work′ ≡ widthsBefore a (top ∷ drop p work) → Turned (byte a) work top p work′ r
 takes a h k e =
     record {
       within = h;
       spelt = λ z. byte-is-letter a;
-      calm = λ z q. k (sym (letter-byte a) ∙ q);
+      calm = λ z q. k z (sym (letter-byte a) ∙ q);
       stack = λ z. rw (letter-byte a) e;
     }
 
 module _ (work : List ℕ) (top p : ℕ) (within : p ≤ length work) where
-  pub lowers : {b : ℕ} → b ≡ byte C → 2 ≤ top → (top ≡ 2 → ⊥)
-      → Turned b work top p work (record { top = top - 1; at = p })
+  pub lowers : {b : ℕ} → b ≡ byte C → Turned b work top p work (record { top = top - 1; at = p })
   unfolding widthsBefore
-  lowers e h n =
-      let three : 3 ≤ top = omega arith in
-      rw e (takes C within (λ z. three) refl)
+  lowers e = rw e (takes C within (λ z q. omega arith) refl)
 
   pub raises-right : {b : ℕ} → b ≡ byte R → Turned b work top p work (record { top = top + 1; at = p })
   unfolding widthsBefore
-  raises-right e = rw e (takes R within (λ z. absurd (letters-differ R C refl z)) refl)
+  raises-right e = rw e (takes R within (λ z q. absurd (letters-differ R C refl q)) refl)
 
   pub raises-left : {b : ℕ} → b ≡ byte L → Turned b work top p work (record { top = top + 1; at = p })
   unfolding widthsBefore
-  raises-left e = rw e (takes L within (λ z. absurd (letters-differ L C refl z)) refl)
+  raises-left e = rw e (takes L within (λ z q. absurd (letters-differ L C refl q)) refl)
 
   pub adds : {b : ℕ} (work′ : List ℕ) (at : ℕ) → b ≡ byte E → 0 < p → at ≡ p - 1 → work′ ≡ set work (p - 1) top
       → Turned b work top p work′ (record { top = 3; at = at })
@@ -60,11 +57,11 @@ module _ (work : List ℕ) (top p : ℕ) (within : p ≤ length work) where
   adds work′ at e h q z =
       let room : p - 1 ≤ length (set work (p - 1) top) = rw (length-set work (p - 1) top) (omega arith) in
       let three = ap (λ (l : List ℕ). 3 ∷ l) (push-set work p top h within) in
-      rw (e, q, z) (takes E room (λ z. absurd (letters-differ E C refl z)) three)
+      rw (e, q, z) (takes E room (λ z q. absurd (letters-differ E C refl q)) three)
 
   pub joins : {b : ℕ} → b ≡ byte S → p < length work
       → Turned b work top p work (record { top = top + getD work p 0 - 1; at = p + 1 })
   unfolding widthsBefore
   joins e h =
       rw e
-      (takes S (omega arith) (λ z. absurd (letters-differ S C refl z)) (rw (add-one p, drop-cons work p 0 h)))
+      (takes S (omega arith) (λ z q. absurd (letters-differ S C refl q)) (rw (add-one p, drop-cons work p 0 h)))

@@ -2,7 +2,7 @@
 -- work from p on.
 --
 --   Apart top p work              the stack can take a letter
---   Turned b work top p work′ r   if r has a top, r and work′ are the stack with the byte b before its words: then the
+--   Turned b work top p work′ r   if r has a width, 2 or more, r and work′ are the stack with the byte b before its words: then the
 --                                 byte is a letter, and no C before width 2
 --   Told s yes                    yes only where s closes
 use mathlib.Core.Bool.{Bool, true}
@@ -24,9 +24,9 @@ pub record Apart (top p : ℕ) (work : List ℕ) : Type 0 where
 
 pub record Turned (b : ℕ) (work : List ℕ) (top p : ℕ) (work′ : List ℕ) (r : Tops) : Type 0 where
   pub within : r .at ≤ length work′
-  pub spelt : 0 < r .top → isLetter b ≡ true
-  pub calm : 0 < r .top → letter b ≡ C → 3 ≤ top
-  pub stack : 0 < r .top → r .top ∷ drop (r .at) work′ ≡ widthsBefore (letter b) (top ∷ drop p work)
+  pub spelt : 2 ≤ r .top → isLetter b ≡ true
+  pub calm : 2 ≤ r .top → letter b ≡ C → 3 ≤ top
+  pub stack : 2 ≤ r .top → r .top ∷ drop (r .at) work′ ≡ widthsBefore (letter b) (top ∷ drop p work)
 
 pub record Told (s : List ℕ) (yes : Bool) : Type 0 where
   pub closes : yes ≡ true → Closes s

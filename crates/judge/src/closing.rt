@@ -4,7 +4,7 @@ ghost use Prim.Native.Nat.{_≤_};
 ghost use lib.ListN.{length};
 ghost use Rattle.judge.specs.Closing.{Apart, Turned, Told};
 
-// The width of the first word, 0 where the letters do not close, and where the stack of the others stands.
+// The width of the first word, below 2 where the letters do not close, and where the stack of the others stands.
 pub struct Tops {
     pub top: u32,
     pub at: usize,
@@ -16,9 +16,6 @@ fn turn(b: u8, work: &mut [u32], top: u32, p: usize) -> Tops
     ensures { λ r. ⌜ Turned b (now (work .entry)) top p (now (work .exit)) r ⌝ }
 {
     if b == 67 {
-        if top == 2 {
-            return Tops { top: 0, at: p };
-        }
         return Tops {
             top: top - 1,
             at: p,
@@ -69,7 +66,7 @@ pub fn closes(s: &[u8], work: &mut [u32]) -> bool
     let mut i = t - 1;
     while 0 < i {
         let next = turn(s[i - 1], work, top, p);
-        if next.top == 0 {
+        if next.top < 2 {
             return false;
         }
         top = next.top;

@@ -7,29 +7,23 @@ use Rattle.judge.proofs.Turns.{adds, halts, joins, lowers, raises-left,
 use Rattle.judge.proofs.closing.turn.Statement.{statement}
 use Rattle.judge.proofs.closing.turn.Tie as tie
 
--- a C before width 2
-returns : tie.Need-returns
-returns c = halts refl (c .before .before .before .pre .within)
+sub-t7 : tie.Need-sub-t7
+sub-t7 c = search needs
 
-sub-t8 : tie.Need-sub-t8
-sub-t8 c = search needs
+returns : tie.Need-returns
+returns c = lowers _ _ _ (c .before .before .pre .within) (c .if1 .taken)
+
+add-t8 : tie.Need-add-t8
+add-t8 c = search needs
 
 returns-2 : tie.Need-returns-2
-returns-2 c =
-    let s = c .before .before .before in
-    lowers _ _ _ (s .pre .within) (c .before .if1 .taken) (s .pre .low) (c .if2 .left)
+returns-2 c = raises-right _ _ _ (c .before .before .before .pre .within) (c .if2 .taken)
 
 add-t9 : tie.Need-add-t9
 add-t9 c = search needs
 
 returns-3 : tie.Need-returns-3
-returns-3 c = raises-right _ _ _ (c .before .before .before .pre .within) (c .if3 .taken)
-
-add-t10 : tie.Need-add-t10
-add-t10 c = search needs
-
-returns-4 : tie.Need-returns-4
-returns-4 c = raises-left _ _ _ (c .before .before .before .before .pre .within) (c .if4 .taken)
+returns-3 c = raises-left _ _ _ (c .before .before .before .before .pre .within) (c .if3 .taken)
 
 push-requires : tie.Need-push-requires
 push-requires c κs = search needs
@@ -37,62 +31,59 @@ push-requires c κs = search needs
 same-length : tie.Need-same-length
 same-length c = search needs
 
-returns-5 : tie.Need-returns-5
-returns-5 c =
+returns-4 : tie.Need-returns-4
+returns-4 c =
     let call = c .before .before in
     let s = call .before .before .before .before .before .before .before in
     let pushed = call .push .ensures in
-    adds _ _ _ (s .pre .within) _ _ (call .before .before .if5 .taken) (s .pre .room) (pushed .0) (pushed .1)
+    adds _ _ _ (s .pre .within) _ _ (call .before .before .if4 .taken) (s .pre .room) (pushed .0) (pushed .1)
 
--- no letter
+returns-5 : tie.Need-returns-5
+returns-5 c = halts refl (c .before .before .before .before .before .before .pre .within)
+
 returns-6 : tie.Need-returns-6
-returns-6 c = halts refl (c .before .before .before .before .before .before .pre .within)
+returns-6 c = halts refl (c .before .before .before .before .before .before .before .pre .within)
 
--- an S before one word
+mul-t12 : tie.Need-mul-t12
+mul-t12 c = search needs
+
+slice-read-t14 : tie.Need-slice-read-t14
+slice-read-t14 c = search needs
+
+add-t15 : tie.Need-add-t15
+add-t15 c =
+    let s = c .before .before .before .before .before .before .before .before in
+    omega (arith, s .pre .small, top-total (s .args .work .now) (s .args .p) (c .before .if6 .left))
+
+sub-t16 : tie.Need-sub-t16
+sub-t16 c = search needs
+
+add-t17 : tie.Need-add-t17
+add-t17 c = search needs
+
 returns-7 : tie.Need-returns-7
-returns-7 c = halts refl (c .before .before .before .before .before .before .before .pre .within)
-
-mul-t13 : tie.Need-mul-t13
-mul-t13 c = search needs
-
-slice-read-t15 : tie.Need-slice-read-t15
-slice-read-t15 c = search needs
-
-add-t16 : tie.Need-add-t16
-add-t16 c =
+returns-7 c =
     let s = c .before .before .before .before .before .before .before .before in
-    omega (arith, s .pre .small, top-total (s .args .work .now) (s .args .p) (c .before .if7 .left))
-
-sub-t17 : tie.Need-sub-t17
-sub-t17 c = search needs
-
-add-t18 : tie.Need-add-t18
-add-t18 c = search needs
-
-returns-8 : tie.Need-returns-8
-returns-8 c =
-    let s = c .before .before .before .before .before .before .before .before in
-    joins _ _ _ (s .pre .within) (c .before .before .if6 .left) (c .before .if7 .left)
+    joins _ _ _ (s .pre .within) (c .before .before .if5 .left) (c .before .if6 .left)
 
 pub turn-spec : {M : Type 1} → statement M
 turn-spec =
     tie.close
     (tie.spec
+    sub-t7
     returns
-    sub-t8
+    add-t8
     returns-2
     add-t9
     returns-3
-    add-t10
-    returns-4
     push-requires
     same-length
+    returns-4
     returns-5
     returns-6
-    returns-7
-    mul-t13
-    slice-read-t15
-    add-t16
-    sub-t17
-    add-t18
-    returns-8)
+    mul-t12
+    slice-read-t14
+    add-t15
+    sub-t16
+    add-t17
+    returns-7)
