@@ -3,8 +3,8 @@ use mathlib.Core.Path.{_∙_, sym}
 use Rattle.tables.proofs.Filling.{fill-letter, fills-C, fills-E, fills-L, fills-R, fills-S}
 use Rattle.theory.specs.declared.Letter.the-variants.{C, E, L, R, S}
 use borrow.Author.Needs.{needs}
-use Rattle.tables.proofs.turn.Statement.{statement}
-use Rattle.tables.proofs.turn.Tie as tie
+use Rattle.tables.proofs.labels.turn.Statement.{statement}
+use Rattle.tables.proofs.labels.turn.Tie as tie
 
 letter-of-requires : tie.Need-letter-of-requires
 letter-of-requires c κs = search needs

@@ -1,8 +1,8 @@
 -- `place` meets its contract: three stores.
 use Rattle.tables.proofs.Filling.{placed}
 use borrow.Author.Needs.{needs}
-use Rattle.tables.proofs.place.Statement.{statement}
-use Rattle.tables.proofs.place.Tie as tie
+use Rattle.tables.proofs.labels.place.Statement.{statement}
+use Rattle.tables.proofs.labels.place.Tie as tie
 
 mul-put : tie.Need-mul-put
 mul-put c = search needs

@@ -1,8 +1,8 @@
 -- `after_facing` meets its contract: two reads.
 use borrow.Author.Needs.{needs}
 use Rattle.tables.proofs.Filling.{after-at}
-use Rattle.tables.proofs.after_facing.Statement.{statement}
-use Rattle.tables.proofs.after_facing.Tie as tie
+use Rattle.tables.proofs.labels.after_facing.Statement.{statement}
+use Rattle.tables.proofs.labels.after_facing.Tie as tie
 
 at-requires : tie.Need-at-requires
 at-requires c κs = search needs

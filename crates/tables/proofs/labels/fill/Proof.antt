@@ -3,8 +3,8 @@ use Prim.Native.Nat.{_-_}
 use lib.ListN.{length}
 use borrow.Author.Needs.{needs}
 use Rattle.tables.proofs.Filling.{Filling, filling-end, filling-start, filling-turn}
-use Rattle.tables.proofs.fill.Statement.{statement}
-use Rattle.tables.proofs.fill.Tie as tie
+use Rattle.tables.proofs.labels.fill.Statement.{statement}
+use Rattle.tables.proofs.labels.fill.Tie as tie
 
 abbrev Inv-loop : tie.InvT-loop
 Inv-loop s notes os vs₀ left₀ right₀ new₀ k₀ vs left right new k = Filling s notes os vs₀ vs left right new k

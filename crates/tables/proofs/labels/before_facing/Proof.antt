@@ -1,8 +1,8 @@
 -- `before_facing` meets its contract: two reads.
 use borrow.Author.Needs.{needs}
 use Rattle.tables.proofs.Filling.{before-at}
-use Rattle.tables.proofs.before_facing.Statement.{statement}
-use Rattle.tables.proofs.before_facing.Tie as tie
+use Rattle.tables.proofs.labels.before_facing.Statement.{statement}
+use Rattle.tables.proofs.labels.before_facing.Tie as tie
 
 at-requires : tie.Need-at-requires
 at-requires c κs = search needs

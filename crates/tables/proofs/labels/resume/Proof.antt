@@ -1,8 +1,8 @@
 -- `resume` meets its contract: two reads.
 use Rattle.tables.proofs.Filling.{resumes}
 use borrow.Author.Needs.{needs}
-use Rattle.tables.proofs.resume.Statement.{statement}
-use Rattle.tables.proofs.resume.Tie as tie
+use Rattle.tables.proofs.labels.resume.Statement.{statement}
+use Rattle.tables.proofs.labels.resume.Tie as tie
 
 mul-before-facing : tie.Need-mul-before-facing
 mul-before-facing c = search needs
