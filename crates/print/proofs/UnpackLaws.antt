@@ -9,7 +9,7 @@ use mathlib.Core.Bool.{Bool, _&&_, false, true}
 use mathlib.Core.List.{List, _++_}
 use mathlib.Core.Logic.{_≢_}
 use mathlib.Core.Path.{_∙_, _≡_, ap, refl, sym}
-use Prim.Native.Nat.{_*_, _+_, _<_, _≤_, one, suc, zero, ℕ}
+use Prim.Native.Nat.{_*_, _+_, _<_, _≤_, suc, zero, ℕ}
 use native.Mathlib.Decide.{decLe}
 use native.Mathlib.Omega.{arith}
 use lib.Dec.{eqb, leb}
@@ -23,7 +23,6 @@ use Rattle.record.specs.Calls.{Opens, early, openAnswer, openRungs, opened, pla
 use Rattle.record.specs.Lines.{gateLine, letters}
 use Rattle.record.specs.declared.Opened.{Opened}
 use Rattle.text.proofs.PutLaws.{put-inside, put-none, wrote-append}
-use Rattle.text.specs.Line.{line}
 use Rattle.text.specs.Put.{Wrote}
 use Rattle.theory.proofs.AnswerLaws.{whole-passed, whole-stops}
 use Rattle.theory.proofs.CallLaws.{filled-done, filled-refused}
@@ -33,11 +32,10 @@ use Rattle.theory.proofs.TestLaws.{and-left, and-right}
 use Rattle.theory.proofs.WordLaws.{length-spell}
 use Rattle.theory.proofs.WordTables.{length-o, length-v}
 use Rattle.theory.specs.Answer.{firstBroken, refused}
-use Rattle.theory.specs.Calls.{cleared, filled, sizes}
-use Rattle.theory.specs.Corner.{inside}
+use Rattle.theory.specs.Calls.{cleared, filled}
 use Rattle.theory.specs.Judge.{letterAnswer, stringDone}
 use Rattle.theory.specs.Lists.{mem}
-use Rattle.theory.specs.Tables.{tableO, tableV, vertices}
+use Rattle.theory.specs.Tables.{tableO, tableV}
 use Rattle.theory.specs.Word.{size, wordOf}
 use Rattle.theory.specs.declared.Answer.{Answer}
 

@@ -7,7 +7,7 @@ use mathlib.Core.Bool.{_&&_, true}
 use mathlib.Core.List.{List}
 use mathlib.Core.Logic.{_≢_}
 use mathlib.Core.Path.{_∙_, _≡_, ap, refl, sym}
-use Prim.Native.Nat.{_%_, _*_, _+_, _/_, _≤_, zero, ℕ}
+use Prim.Native.Nat.{_%_, _*_, _+_, _/_, _≤_, ℕ}
 use native.Mathlib.Omega.{arith}
 use lib.Dec.{eqb}
 use lib.ListN.{length, length-replicate, take}
@@ -16,7 +16,6 @@ use Rattle.promises.proofs.Returns.{first-part, read-neighbours, read-v
 use Rattle.promises.specs.Demands.{ReadBack}
 use Rattle.theory.proofs.CallLaws.{cleared-later}
 use Rattle.theory.proofs.CallsDone.{WriteDone, read-goes, write-done}
-use Rattle.theory.proofs.Counting.{count}
 use Rattle.theory.proofs.MeshStrings.{corners-length, letters-length, mesh-closes, mesh-renumbers, mesh-round}
 use Rattle.theory.proofs.Reading.{read}
 use Rattle.theory.proofs.TestLaws.{and-left, and-right}

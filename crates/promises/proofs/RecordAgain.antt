@@ -9,7 +9,7 @@ use mathlib.Core.Bool.{_&&_}
 use mathlib.Core.List.{List}
 use mathlib.Core.Logic.{_≢_}
 use mathlib.Core.Path.{_∙_, _≡_, ap, refl, sym}
-use Prim.Native.Nat.{_*_, _+_, _-_, _≤_, zero, ℕ}
+use Prim.Native.Nat.{_*_, _+_, _-_, _≤_, ℕ}
 use native.Mathlib.Omega.{arith}
 use lib.Dec.{leb}
 use lib.ListN.{drop, length, length-replicate, replicate, take}
@@ -29,7 +29,7 @@ use Rattle.theory.proofs.TestLaws.{and-right}
 use Rattle.theory.specs.Answer.{refused}
 use Rattle.theory.specs.Calls.{cleared}
 use Rattle.theory.specs.Judge.{stringDone}
-use Rattle.theory.specs.Lists.{back, mem}
+use Rattle.theory.specs.Lists.{mem}
 
 -- the part of the record that the head says
 pub head-letters : (text : List ℕ) (h : Head) (e : ℕ) → h ≡ headOf text → h .number ≡ 0 → e ≡ h .start + h .len

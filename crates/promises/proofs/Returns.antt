@@ -6,7 +6,7 @@
 use mathlib.Core.List.{List, _++_}
 use mathlib.Core.Logic.{_≢_}
 use mathlib.Core.Path.{_∙_, _≡_, ap, refl, sym}
-use Prim.Native.Nat.{_*_, _+_, _/_, _≤_, zero, ℕ}
+use Prim.Native.Nat.{_*_, _+_, _/_, _≤_, ℕ}
 use native.Mathlib.Omega.{arith}
 use lib.ListN.{drop, length, length-replicate, take}
 use lib.Seq.{take-append-seam}
@@ -22,7 +22,7 @@ use Rattle.theory.proofs.WordTables.{length-o, length-v}
 use Rattle.theory.specs.Answer.{done}
 use Rattle.theory.specs.Calls.{Reads, Writes, cleared, filled}
 use Rattle.theory.specs.Judge.{stringDone}
-use Rattle.theory.specs.Lists.{back, mem}
+use Rattle.theory.specs.Lists.{mem}
 use Rattle.theory.specs.Tables.{tableO, tableV}
 use Rattle.theory.specs.Walk.{cornersOf, lettersOf, meshWalk, walk}
 use Rattle.theory.specs.Word.{size, spell, wordOf}

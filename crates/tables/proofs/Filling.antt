@@ -2,14 +2,13 @@
 --
 --   after-at before-at      two reads through a facing corner
 --   fill-letter             by the letter that a byte stands for
---   placed                  three stores are a row
 --   fills-C ..  resumes     the stores of each letter, and what follows a word
 use mathlib.Core.List.{List}
 use mathlib.Core.Path.{_∙_, _≡_, ap, refl, sym}
 use Prim.Native.Nat.{_*_, _+_, _<_, _≤_, suc, ℕ}
 use native.Mathlib.Numerals.{add-one}
 use native.Mathlib.Omega.{arith}
-use lib.ListN.{drop, drop-of-length-le, getD, length, set}
+use lib.ListN.{drop, drop-of-length-le, getD, length}
 use lib.Seq.{drop-cons}
 use Rattle.tables.specs.Fill.{Fill, afterFacing, atLeft, atRight, beforeFacing, fillIn, fillRun, fillStep, fillV, resumed, row}
 use Rattle.theory.specs.Corner.{next, previous}
@@ -25,11 +24,6 @@ module _ (os vs : List ℕ) (c x y z : ℕ) (e : x ≡ getD os c 0) (g : z ≡ g
   pub before-at : y ≡ previous x → z ≡ beforeFacing os vs c
   unfolding beforeFacing
   before-at f = rw (← e, ← f) g
-
-pub placed : (k x l r : ℕ) (vs vs₁ vs₂ vs₃ : List ℕ) → vs₁ ≡ set vs (3 * k) x → vs₂ ≡ set vs₁ (3 * k + 1) l
-    → vs₃ ≡ set vs₂ (3 * k + 2) r → vs₃ ≡ row k x l r vs
-unfolding row
-placed k x l r vs vs₁ vs₂ vs₃ e₁ e₂ e₃ = rw (← e₁, ← e₂) e₃
 
 pub fill-letter : {y : Fill} (k : ℕ) (ns os : List ℕ) (z : Fill) (a b : Letter) → a ≡ b → y ≡ fillStep a k ns os z
     → y ≡ fillStep b k ns os z

@@ -9,7 +9,6 @@ use corner::next_of;
 use corner::previous_of;
 use lent::at;
 use lent::letter_of;
-use lent::put;
 use theory::Letter;
 
 // The ends of the next triangle, and the next new vertex.
@@ -36,12 +35,12 @@ fn before_facing(os: &[u32], vs: &[u32], i: usize) -> u32
 
 // The three vertices of triangle k.
 fn place(k: usize, x: u32, l: u32, r: u32, vs: &mut [u32])
-    requires { ⌜ k < 65536 ⌝ }
+    requires { ⌜ (k < 65536) × (3 * k + 2 < length (now vs)) ⌝ }
     ensures { λ _. ⌜ now (vs .exit) ≡ row k x l r (now (vs .entry)) ⌝ }
 {
-    put(vs, 3 * k, x);
-    put(vs, 3 * k + 1, l);
-    put(vs, 3 * k + 2, r);
+    vs[3 * k] = x;
+    vs[3 * k + 1] = l;
+    vs[3 * k + 2] = r;
 }
 
 // The next triangle stands where an S waits.
@@ -65,7 +64,7 @@ fn turn(
     os: &[u32],
     vs: &mut [u32],
 ) -> Sides
-    requires { ⌜ (k < 65536) × (new < 1000000) ⌝ }
+    requires { ⌜ (k < 65536) × (new < 1000000) × (3 * k + 2 < length (now vs)) ⌝ }
     ensures { λ r. ⌜ fillIn (now (vs .exit)) (r .left) (r .right) (r .new) ≡ fillStep (letter b) k (now (notes .entry)) (now (os .entry)) (fillIn (now (vs .entry)) left right new) ⌝ }
 {
     match letter_of(b) {
@@ -115,7 +114,7 @@ fn turn(
 
 // The vertices of all triangles.
 pub fn fill(s: &[u8], notes: &[u32], os: &[u32], vs: &mut [u32])
-    requires { ⌜ length (now s) ≤ 65536 ⌝ }
+    requires { ⌜ (length (now s) ≤ 65536) × (3 * length (now s) ≤ length (now vs)) ⌝ }
     ensures { λ _. ⌜ now (vs .exit) ≡ fillV (now (s .entry)) (now (notes .entry)) (now (os .entry)) (now (vs .entry)) ⌝ }
 {
     let mut left = 0;

@@ -11,6 +11,7 @@ ghost use Rattle.theory.specs.Letter.{letter};
 ghost use Rattle.theory.specs.Tables.{joinAt};
 ghost use Rattle.tables.specs.Built.{Buildable, Built};
 ghost use Rattle.tables.specs.Fold.{Foldable, Folded, Room, foldC, foldE, foldIn, foldL, foldR, foldS, foldStep, pushed, stops};
+
 mod labels;
 
 use labels::fill;
@@ -53,7 +54,7 @@ fn fold_l(t: usize, k: u32, first: u32, last: u32, top: usize, work: &mut [u32])
     ensures { λ r. ⌜ foldIn (now (work .exit)) (r .first) (r .last) (r .top) ≡ foldL k (foldIn (now (work .entry)) first last top) ⌝ }
 {
     join(work, 3 * k + 1, 3 * (k + 1));
-    put(work, 3 * k as usize + 2, last);
+    work[3 * k as usize + 2] = last;
     Ends {
         first,
         last: 3 * k + 2,
@@ -65,7 +66,7 @@ fn fold_r(t: usize, k: u32, first: u32, last: u32, top: usize, work: &mut [u32])
     requires { ⌜ Room t k first last top (now work) ⌝ }
     ensures { λ r. ⌜ foldIn (now (work .exit)) (r .first) (r .last) (r .top) ≡ foldR k (foldIn (now (work .entry)) first last top) ⌝ }
 {
-    put(work, first as usize, 3 * k + 1);
+    work[first as usize] = 3 * k + 1;
     join(work, 3 * k + 2, 3 * (k + 1));
     Ends {
         first: 3 * k + 1,
@@ -89,7 +90,7 @@ fn fold_e(t: usize, k: u32, first: u32, last: u32, top: usize, work: &mut [u32])
     ensures { λ r. ⌜ foldIn (now (work .exit)) (r .first) (r .last) (r .top) ≡ foldE k (foldIn (now (work .entry)) first last top) ⌝ }
 {
     push_word(k, first, last, top - 3, work);
-    put(work, 3 * k as usize + 2, 3 * k + 1);
+    work[3 * k as usize + 2] = 3 * k + 1;
     Ends {
         first: 3 * k + 1,
         last: 3 * k + 2,

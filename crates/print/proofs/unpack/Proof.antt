@@ -8,8 +8,6 @@ use borrow.Author.Needs.{needs}
 use borrow.Author.Tests.{not-false, not-true}
 use Rattle.print.proofs.Lengths.{counts-length, refusal-length}
 use Rattle.print.proofs.UnpackLaws.{done-few, ready-sizes, unpack-done, unpack-long, unpack-refused, unpack-unready}
-use Rattle.text.specs.Line.{line}
-use Rattle.theory.specs.Calls.{sizes}
 use Rattle.print.proofs.unpack.Statement.{statement}
 use Rattle.print.proofs.unpack.Tie as tie
 

@@ -7,7 +7,6 @@ use borrow.Author.Needs.{needs}
 use Rattle.print.proofs.Lengths.{triangle-length}
 use Rattle.print.proofs.Printing.{Printing, printing-next, printing-room, printing-start}
 use Rattle.print.specs.Printed.{triangleLines}
-use Rattle.text.specs.Line.{line}
 use Rattle.text.specs.Put.{Wrote}
 use Rattle.print.proofs.write_triangles.Statement.{statement}
 use Rattle.print.proofs.write_triangles.Tie as tie

@@ -4,7 +4,6 @@ use native.Mathlib.Omega.{arith}
 use borrow.Author.Needs.{needs}
 use Rattle.promises.proofs.RecordAgain.{head-letters, head-refused, record-refused, record-returned}
 use Rattle.record.proofs.OpenLaws.{head-inside}
-use Rattle.record.specs.Calls.{opened}
 use Rattle.promises.proofs.record_again.Statement.{statement}
 use Rattle.promises.proofs.record_again.Tie as tie
 

@@ -1,6 +1,7 @@
 -- `fold_l` meets its contract.
-use Rattle.tables.proofs.Stores.{stores-L}
+use mathlib.Core.Path.{refl}
 use borrow.Author.Needs.{needs}
+use Rattle.tables.proofs.Stores.{stores-L}
 use Rattle.tables.proofs.fold_l.Statement.{statement}
 use Rattle.tables.proofs.fold_l.Tie as tie
 
@@ -19,29 +20,29 @@ mul-join-2 c = search needs
 join-requires : tie.Need-join-requires
 join-requires c κs = search needs
 
-mul-put : tie.Need-mul-put
-mul-put c = search needs
+mul-work : tie.Need-mul-work
+mul-work c = search needs
 
-add-put : tie.Need-add-put
-add-put c = search needs
+add-work : tie.Need-add-work
+add-work c = search needs
 
-put-requires : tie.Need-put-requires
-put-requires c κs = search needs
+mul-work-2 : tie.Need-mul-work-2
+mul-work-2 c = search needs
 
-mul-t13 : tie.Need-mul-t13
-mul-t13 c = search needs
+slice-write-work : tie.Need-slice-write-work
+slice-write-work c = search needs
 
-add-t10 : tie.Need-add-t10
-add-t10 c = search needs
+mul-t10 : tie.Need-mul-t10
+mul-t10 c = search needs
+
+add-t11 : tie.Need-add-t11
+add-t11 c = search needs
 
 same-length : tie.Need-same-length
 same-length c = search needs
 
 returns : tie.Need-returns
-returns c =
-    let side = c .before .before in
-    let link = side .before .before .before .before in
-    stores-L _ _ _ _ _ _ _ (link .join .ensures) (side .put .ensures)
+returns c = stores-L _ _ _ _ _ _ _ (c .before .before .join .ensures) refl
 
 pub fold-l-spec : {M : Type 1} → statement M
 fold-l-spec =
@@ -52,10 +53,11 @@ fold-l-spec =
     add-join-2
     mul-join-2
     join-requires
-    mul-put
-    add-put
-    put-requires
-    mul-t13
-    add-t10
+    mul-work
+    add-work
+    mul-work-2
+    slice-write-work
+    mul-t10
+    add-t11
     same-length
     returns)

@@ -1,56 +1,66 @@
 -- `place` meets its contract: three stores.
-use Rattle.tables.proofs.Filling.{placed}
+use mathlib.Core.Path.{refl}
+use native.Mathlib.Omega.{arith}
+use lib.ListN.{length-set}
 use borrow.Author.Needs.{needs}
 use Rattle.tables.proofs.labels.place.Statement.{statement}
 use Rattle.tables.proofs.labels.place.Tie as tie
+use Rattle.tables.specs.Fill as Fill
 
-mul-put : tie.Need-mul-put
-mul-put c = search needs
+mul-vs : tie.Need-mul-vs
+mul-vs c = search needs
 
-put-requires : tie.Need-put-requires
-put-requires c κs = search needs
+mul-vs-2 : tie.Need-mul-vs-2
+mul-vs-2 c = search needs
 
-mul-put-2 : tie.Need-mul-put-2
-mul-put-2 c = search needs
+slice-write-vs : tie.Need-slice-write-vs
+slice-write-vs c = search needs
 
-add-put : tie.Need-add-put
-add-put c = search needs
+mul-vs-3 : tie.Need-mul-vs-3
+mul-vs-3 c = search needs
 
-put-requires-2 : tie.Need-put-requires-2
-put-requires-2 c κs = search needs
+add-vs : tie.Need-add-vs
+add-vs c = search needs
 
-mul-put-3 : tie.Need-mul-put-3
-mul-put-3 c = search needs
+mul-vs-4 : tie.Need-mul-vs-4
+mul-vs-4 c = search needs
 
-add-put-2 : tie.Need-add-put-2
-add-put-2 c = search needs
+slice-write-vs-2 : tie.Need-slice-write-vs-2
+slice-write-vs-2 c = simp length-set (omega arith)
 
-put-requires-3 : tie.Need-put-requires-3
-put-requires-3 c κs = search needs
+mul-vs-5 : tie.Need-mul-vs-5
+mul-vs-5 c = search needs
+
+add-vs-2 : tie.Need-add-vs-2
+add-vs-2 c = search needs
+
+mul-vs-6 : tie.Need-mul-vs-6
+mul-vs-6 c = search needs
+
+slice-write-vs-3 : tie.Need-slice-write-vs-3
+slice-write-vs-3 c = search needs
 
 same-length : tie.Need-same-length
 same-length c = search needs
 
 returns : tie.Need-returns
-returns c =
-    let third = c .before .before in
-    let second = third .before .before .before .before in
-    let first = second .before .before .before .before in
-    let a = first .before .before .before .args in
-    placed (a .k) (a .x) (a .l) (a .r) (a .vs .now) _ _ _ (first .put .ensures) (second .put2 .ensures)
-    (third .put3 .ensures)
+unfolding Fill.row
+returns c = refl
 
 pub place-spec : {M : Type 1} → statement M
 place-spec =
     tie.close
     (tie.spec
-    mul-put
-    put-requires
-    mul-put-2
-    add-put
-    put-requires-2
-    mul-put-3
-    add-put-2
-    put-requires-3
+    mul-vs
+    mul-vs-2
+    slice-write-vs
+    mul-vs-3
+    add-vs
+    mul-vs-4
+    slice-write-vs-2
+    mul-vs-5
+    add-vs-2
+    mul-vs-6
+    slice-write-vs-3
     same-length
     returns)
