@@ -208,8 +208,8 @@ module _ {vs os letters walk work work′ : List ℕ} {v g : ℕ} {a : Answer} w
       record {
         answer = e .answer;
         string =
-            r .said ∙ ap (λ (y : List ℕ). y ++ drop (length y) letters) ls ∙ sym
-            (filled-done a (lettersOf q) letters h);
+            r .said ∙ ap (λ (y : List ℕ). y ++ drop (length y) letters) ls
+            ∙ sym (filled-done a (lettersOf q) letters h);
         table = r .went ∙ ap (λ (y : List ℕ). y ++ drop (length y) walk) cs ∙ sym (filled-done a (cornersOf q) walk h);
         space = z;
       }

@@ -218,8 +218,8 @@ module _ (bytes vs os work out : List ℕ) where
             (omega arith) in
             let two : p + length rest ≤ length mid = put-inside mid p rest (ap length (sym (w2 .text)) ∙ kept2)
             (omega (arith, w .place, one, kept)) in
-            let room : 0 + length (line ++ rest) ≤ length out = omega
-            (arith, length-append line rest, w .place, two, kept) in
+            let room : 0 + length (line ++ rest) ≤ length out =
+            omega (arith, length-append line rest, w .place, two, kept) in
             made (plainO r) answered (line ++ rest) mesh-text (wrote-append out 0 line rest room mid p w out′ q w2)
             (kept2 ∙ kept)
             (opens .vertices) (opens .neighbours) (opens .space)

@@ -99,8 +99,8 @@ module _ {s vs os work vs′ os′ work′ : List ℕ} {a : Answer} (r : Reads s
           ∙ rw m in
           let zero = ap (λ (x : Answer). x .number) ans in (
             ans ∙ sym (read-counts h),
-            made .string ∙ filled-done b (lettersOf (meshWalk (tableV w) (tableO w) 0)) letters zero ∙ rw
-                (back .0, spelt),
+            made .string ∙ filled-done b (lettersOf (meshWalk (tableV w) (tableO w) 0)) letters zero
+                ∙ rw (back .0, spelt),
             made .table ∙ filled-done b (cornersOf (meshWalk (tableV w) (tableO w) 0)) walk zero
                 ∙ rw (back .1, read-size h, length-tips 0 (length s)),
           )

@@ -213,8 +213,8 @@ module _ (text vs os work : List ℕ) (r : Opened) (vs′ os′ work′ : List �
         le-leb
             (12 * length (letters text)) (length space) hw,
       ) in
-      let corner : r .gate < 3 * length (letters text) = omega
-      (arith, read-good .corner, read-good .enough, read-gate) in
+      let corner : r .gate < 3 * length (letters text) =
+      omega (arith, read-good .corner, read-good .enough, read-gate) in
       let a : packAnswer (letters text) (r .gate) (length out) (length space) ≡ stringDone (letters text) =
       whole-passed 1 (countOk (length (letters text))) _ (stringDone (letters text))
       (ap countOk (read-good .enough) ∙ read-good .count)

@@ -102,8 +102,8 @@ module _ {shape fits : Bool} {rs : List Rung} {d : Answer} {work : List ℕ} {a 
       record { answer = e ∙ sym (sized-second shape fits rs d h f); space = rw e (sym (cleared-second work)) }
 
   pub went-on :
-      {work′ : List ℕ} → shape ≡ true → fits ≡ true → a ≡ firstBroken rs d → Later (a .number) → work′ ≡ replicate
-      (length work) 0
+      {work′ : List ℕ} → shape ≡ true → fits ≡ true → a ≡ firstBroken rs d → Later (a .number)
+      → work′ ≡ replicate (length work) 0
       → Outcome shape fits rs d work a work′
   went-on h f e l z =
       record { answer = e ∙ sym (sized-rest shape fits rs d h f); space = z ∙ sym (cleared-later a work l) }

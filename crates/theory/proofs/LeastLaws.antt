@@ -50,8 +50,8 @@ module _ (ok : ℕ → Bool) where
   fails-from (suc n) i l = go (ok i) refl l (fails-from n (suc i))
     where
       go : (b : Bool) → ok i ≡ b → cond b (leastFrom ok n (suc i)) i < i + suc n
-          → (leastFrom ok n (suc i) < suc i + n → ok (leastFrom ok n (suc i)) ≡ false) → ok
-          (cond b (leastFrom ok n (suc i)) i) ≡ false
+          → (leastFrom ok n (suc i) < suc i + n → ok (leastFrom ok n (suc i)) ≡ false)
+          → ok (cond b (leastFrom ok n (suc i)) i) ≡ false
       go true e l ih = ih (omega arith)
       go false e l ih = e
 

@@ -68,8 +68,8 @@ module _ (vs os : List ℕ) (v g : ℕ) where
       let low : (c : ℕ) → c < length vs → c < 3 * (length vs / 3) = λ c h. omega (arith, s .thirds) in
       let pairs : (c : ℕ) → c < length vs → pairedAt os c ≡ true =
       λ c h. paired-test os c (record {
-        inside = omega
-            (arith, r .inside c (low c h), s .same);
+        inside =
+            omega (arith, r .inside c (low c h), s .same);
         back = r .paired c;
         moves = r .moves c (low c h);
       }) in

@@ -63,8 +63,8 @@ module _ (os : List ℕ) (t a : ℕ) where
           let z = mem-false k ks e in
           let f = facing-count os ks t 0 k in (
             omega (arith, z, count-append k ks add, f .0),
-            λ l. omega
-                (arith, f .1 (omega (arith, z, count-append k ks add)) .1),
+            λ l.
+                omega (arith, f .1 (omega (arith, z, count-append k ks add)) .1),
           )
 
   reached-short : a < t → (n : ℕ) → length (reached os t n a) ≤ t

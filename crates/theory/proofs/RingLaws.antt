@@ -182,7 +182,7 @@ module _ {vs os : List ℕ} (s : Surface vs os) (u : ℕ) where
       let e : (rb .0 + (count u vs - z .0)) + z .0 ≡ rb .0 + count u vs = omega (arith, z .1) in (
         m,
         ap (swings os m) (sym (z .2 ∙ ra .2)) ∙ swings-add os m (z .0) (firstCorner vs u)
-            ∙ ap (λ (w : ℕ). swings os w (firstCorner vs u)) e ∙ sym
-            (swings-add os (rb .0) (count u vs) (firstCorner vs u))
+            ∙ ap (λ (w : ℕ). swings os w (firstCorner vs u)) e
+            ∙ sym (swings-add os (rb .0) (count u vs) (firstCorner vs u))
             ∙ ap (swings os (rb .0)) (ring-closes t) ∙ rb .2,
       )

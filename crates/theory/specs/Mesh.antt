@@ -41,8 +41,8 @@ gluedAt vs os c =
 unfoldable pub apartAt : List ℕ → ℕ → Bool
 apartAt vs k =
     not (eqb (vertex vs (3 * k)) (vertex vs (3 * k + 1)))
-    && (not (eqb (vertex vs (3 * k + 1)) (vertex vs (3 * k + 2))) && not
-    (eqb (vertex vs (3 * k + 2)) (vertex vs (3 * k))))
+    && (not (eqb (vertex vs (3 * k + 1)) (vertex vs (3 * k + 2)))
+    && not (eqb (vertex vs (3 * k + 2)) (vertex vs (3 * k))))
 
 -- the first corner of vertex u, the number of corners where it has none
 unfoldable pub firstCorner : List ℕ → ℕ → ℕ

@@ -51,8 +51,8 @@ module _ (lab opp : ℕ → ℕ) (g : ℕ) where
   -- its own triangle is visited, so left and right are looked up with it
   unfoldable pub letterAt : List Step → ℕ → Letter
   letterAt steps c =
-      cond (mem (lab c) (marks lab g steps)) (bySides (seen ((E ＠ c) ∷ steps) (left opp c))
-      (seen ((E ＠ c) ∷ steps) (right opp c))) C
+      cond (mem (lab c) (marks lab g steps))
+      (bySides (seen ((E ＠ c) ∷ steps) (left opp c)) (seen ((E ＠ c) ∷ steps) (right opp c))) C
 
   unfoldable pub walk : ℕ → List Step → List ℕ → ℕ → List Step
   walk zero steps st c = []
