@@ -16,7 +16,8 @@ use borrow.Author.Tests.{eqb-false}
 use Rattle.tables.proofs.Enough.{Enough, Full, full-at, full-cons, full-word, one-open, words-cons}
 use Rattle.tables.proofs.Folds.{standing-C, standing-L, standing-R}
 use Rattle.tables.proofs.Held.{Standing, standing-low}
-use Rattle.tables.proofs.Splices.{standing-E, standing-S}
+use Rattle.tables.proofs.Pushes.{standing-E}
+use Rattle.tables.proofs.Splices.{standing-S}
 use Rattle.tables.proofs.Stopping.{Going, goes, never-stops}
 use Rattle.tables.specs.Fold.{Fold, Foldable, Room, foldC, foldE, foldIn, foldL, foldR, foldS, foldStep, spliced, stops}
 use Rattle.theory.proofs.GreatestLaws.{Above, down-turn}

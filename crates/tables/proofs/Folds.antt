@@ -1,5 +1,5 @@
 -- A letter before the words that stand in the work space: the word that it begins stands there then, and the others as
--- before. One law for each of C, L and R (`standing-C` ..); E and S are in the next file.
+-- before. One law for each of C, L and R (`standing-C` ..); E and S are in Pushes and Splices.
 use mathlib.Core.List.{List, [], _++_, _∷_}
 use mathlib.Core.Logic.{_≢_}
 use mathlib.Core.Path.{_∙_, _≡_, ap, refl, subst, sym}

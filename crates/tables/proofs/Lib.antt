@@ -3,6 +3,7 @@ pub mod Chained
 pub mod Corners
 pub mod Held
 pub mod Folds
+pub mod Pushes
 pub mod Splices
 pub mod Enough
 pub mod Stopping

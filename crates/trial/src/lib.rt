@@ -8,7 +8,12 @@
 //     at store       an entry of a table, 999,999,999 beyond it; a change of one, none beyond it
 //     plus           a sum of counts
 //     number show space  prints a number behind its name; an answer; what is in a work space
+ghost use mathlib.Core.Path.{_≡_};
+ghost use mathlib.Core.Bool.{cond};
 ghost use Prim.Native.Nat.{_≤_};
+ghost use lib.Dec.{eqb};
+ghost use lib.ListN.{getD, set};
+ghost use Rattle.trial.specs.Same.{Tells};
 use theory::Answer;
 
 fn letter(d: u32) -> u8 {
@@ -73,7 +78,7 @@ pub fn nines(tab: &mut [u32]) {
 }
 
 pub fn same(a: u32, b: u32) -> u64
-    ensures { λ r. ⌜ r ≤ 1 ⌝ }
+    ensures { λ r. ⌜ (r ≤ 1) × (r ≡ cond (eqb a b) 1 0) ⌝ }
 {
     if a == b {
         return 1;
@@ -91,7 +96,9 @@ pub fn entries(tab: &[u32], x: u32) -> u64 {
     n
 }
 
-pub fn equal(a: &[u8], b: &[u8]) -> u64 {
+pub fn equal(a: &[u8], b: &[u8]) -> u64
+    ensures { λ r. ⌜ Tells (now (a .entry)) (now (b .entry)) r ⌝ }
+{
     if a.len() != b.len() {
         return 0;
     }
@@ -108,24 +115,28 @@ pub fn equal(a: &[u8], b: &[u8]) -> u64 {
     1
 }
 
-pub fn alike(a: &[u32], b: &[u32]) -> u64 {
-    if a.len() != b.len() {
+pub fn alike(a: &[u32], b: &[u32]) -> u64
+    ensures { λ r. ⌜ Tells (now (a .entry)) (now (b .entry)) r ⌝ }
+{
+    if b.len() != a.len() {
         return 0;
     }
-    let mut i = 0;
-    while i < a.len() {
-        if b.len() <= i {
+    let mut k = 0;
+    while k < a.len() {
+        if b.len() <= k {
             return 0;
         }
-        if a[i] != b[i] {
+        if a[k] != b[k] {
             return 0;
         }
-        i += 1;
+        k += 1;
     }
     1
 }
 
-pub fn at(tab: &[u32], i: u32) -> u32 {
+pub fn at(tab: &[u32], i: u32) -> u32
+    ensures { λ r. ⌜ r ≡ getD (now (tab .entry)) i 999999999 ⌝ }
+{
     let k = i as usize;
     if k < tab.len() {
         return tab[k];
@@ -133,7 +144,9 @@ pub fn at(tab: &[u32], i: u32) -> u32 {
     999999999
 }
 
-pub fn store(tab: &mut [u32], i: u32, x: u32) {
+pub fn store(tab: &mut [u32], i: u32, x: u32)
+    ensures { λ _. ⌜ now (tab .exit) ≡ set (now (tab .entry)) i x ⌝ }
+{
     let k = i as usize;
     if k < tab.len() {
         tab[k] = x;
