@@ -7,6 +7,8 @@
 //
 // Each call answers every input and asks nothing of the caller. What it answers, and what it leaves in each lent table
 // and in the work space, is one record of theory/specs/Calls. The stepping rules are the methods of corner::Corner.
+#![tactic(auto)]
+
 ghost use Rattle.std.specs.Prelude.{◌≡◌, ◌&&◌, leb};
 ghost use Rattle.theory.specs.Calls.{Judges, Reads, Checks, Writes};
 ghost use Rattle.conn.specs.Inner.{ReadRoom, ReadLetters, WriteRoom, WriteLetters};

@@ -6,6 +6,8 @@
 //
 // The methods take the lent table and answer every corner: one beyond the table stays where it is. The functions below
 // them are the same steps for loops that know their bounds.
+#![tactic(auto)]
+
 ghost use Rattle.std.specs.Prelude.{◌≡◌, ◌/◌, ◌<◌, length};
 ghost use Rattle.theory.specs.Corner.{next, previous, triangle, opposite, left, right, swing, inside};
 ghost use Rattle.corner.specs.Counted.{Counted};

@@ -5,6 +5,8 @@
 //
 // A slice is lent as pointer and length. Every call answers a Reply by value, and face/specs/Reply says how it
 // carries the answer of the call behind it.
+#![tactic(auto)]
+
 ghost use Rattle.theory.specs.Calls.{Reads, Checks, Writes};
 ghost use Rattle.record.specs.Calls.{Opens, Packs};
 ghost use Rattle.face.specs.Reply.{Bare, WithGate, WithLength, answer_in, opened_in, packed_in};

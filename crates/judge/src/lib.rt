@@ -1,6 +1,8 @@
 // Judging the letters of a string (document 01, "Numbers of an answer", 3 to 7). One pass from the right says whether
 // they close (closing). Where they do not: forward for the first byte that is no letter, forward for the end of the
 // first word, and from the right with a stack of widths, which is work from p on.
+#![tactic(auto)]
+
 ghost use Rattle.std.specs.Prelude.{◌≡◌, ◌&&◌, List, ℕ, ◌<◌, ◌≤◌, eqb, length, get_or, drop};
 ghost use Rattle.theory.specs.Lists.{head, least};
 ghost use Rattle.theory.specs.Answer.{first_broken};

@@ -1,5 +1,7 @@
 // Leaves of the connectivity part: one number of a lent table, a lent table as a whole, a stack that grows down in one,
 // the five letters, and the two kinds of answer. Each says exactly what it reads or stores.
+#![tactic(auto)]
+
 ghost use Rattle.std.specs.Prelude.{◌≡◌, ◌++◌, ℕ, ◌-◌, ◌<◌, ◌≤◌, length, drop, get_or, set, replicate};
 ghost use Rattle.theory.specs.Lists.{head, tail};
 ghost use Rattle.theory.specs.Answer.{done, refused, count_ok};

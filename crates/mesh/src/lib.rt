@@ -1,5 +1,7 @@
 // The mesh check: numbers 8 to 15 of an answer (document 01, "Numbers of an answer"), in their order, each over the
 // whole table before the next. Linear on every input; the work space may hold anything.
+#![tactic(auto)]
+
 ghost use Rattle.std.specs.Prelude.{◌≡◌, true, ℕ, ◌+◌, ◌*◌, ◌/◌, ◌%◌, ◌<◌, ◌≤◌, length, get_or, take, replicate};
 ghost use Rattle.theory.specs.Lists.{least};
 ghost use Rattle.theory.specs.Answer.{first_broken, done};

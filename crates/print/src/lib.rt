@@ -1,5 +1,7 @@
 // The mesh of a record as text: the function that the program unpack calls, and the lines that it prints. Each writer
 // writes into a buffer and answers the place behind what it wrote.
+#![tactic(auto)]
+
 ghost use Rattle.std.specs.Prelude.{◌≡◌, ◌+◌, ◌*◌, ◌≤◌, ◌<◌, length};
 ghost use Rattle.text.specs.Put.{Wrote};
 ghost use Rattle.print.specs.Printed.{numbered, three, counts_line, triangle_line, triangle_lines, refusal_line};

@@ -1,5 +1,7 @@
 // What was asked, on the code: each function calls public functions of the parts and nothing else of them, and its
 // contract is the demand, proved from their promises alone. What was asked of the definitions is in proofs/Demands.
+#![tactic(auto)]
+
 ghost use Rattle.std.specs.Prelude.{◌≡◌, ◌+◌, ◌≤◌, length};
 ghost use Rattle.theory.specs.Calls.{write_answer};
 ghost use Rattle.promises.specs.Demands.{Returned, ReadBack, Compared, RecordReturned};

@@ -1,4 +1,6 @@
 // The last record: read with its string's tables, and written from a string and a gate.
+#![tactic(auto)]
+
 ghost use Rattle.std.specs.Prelude.{◌≡◌, ◌+◌, ◌≤◌, length};
 ghost use Rattle.text.specs.Put.{Wrote};
 ghost use Rattle.theory.specs.Answer.{done, first_broken};

@@ -1,6 +1,8 @@
 // Rule 13: each vertex has a corner, and swinging from its first corner meets all of them. Linear, for tables and
 // vertex counts of every kind: the corners of each vertex are counted, and a ring is followed no further than it has
 // corners.
+#![tactic(auto)]
+
 ghost use Rattle.std.specs.Prelude.{◌≡◌, ℕ, ◌+◌, ◌<◌, ◌≤◌, length, get_or};
 ghost use Rattle.theory.specs.Lists.{least};
 ghost use Rattle.theory.specs.Mesh.{ringed_at};

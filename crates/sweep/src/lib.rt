@@ -1,6 +1,8 @@
 // A mesh is judged by one sweep over its triangles and by its walk: rules 8 to 12 and 15 hold in the sweep, and then
 // the walk reaches every triangle and marks every vertex exactly where the mesh is accepted (theory: RingsFollow,
 // Covered). Only where it is refused the rules are judged one by one, to name the number and the place.
+#![tactic(auto)]
+
 ghost use Rattle.std.specs.Prelude.{◌≡◌, true, ◌+◌, ◌*◌, ◌/◌, ◌<◌, ◌≤◌, length};
 ghost use Rattle.theory.specs.Mesh.{shape_ok};
 ghost use Rattle.walk.specs.Table.{AllOn};

@@ -4,6 +4,8 @@
 //
 // The open sides of a word are a list that is linked through their own entries of table O. Each letter does what its
 // definition says; that this makes the tables of a string that closes is a law of the definitions.
+#![tactic(auto)]
+
 ghost use Rattle.std.specs.Prelude.{◌≡◌, ℕ, ◌+◌, ◌-◌, ◌*◌, ◌<◌, ◌≤◌, length, set, take};
 ghost use Rattle.theory.specs.Letter.{letter};
 ghost use Rattle.theory.specs.Tables.{join_at};

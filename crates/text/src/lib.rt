@@ -1,4 +1,6 @@
 // Decimal numbers and ended lines, read from slices and written into them.
+#![tactic(auto)]
+
 ghost use Rattle.std.specs.Prelude.{◌≡◌, ◌+◌, ◌≤◌, ◌<◌, length};
 ghost use Rattle.text.specs.Decimal.{decimal, number, leads_well, digits_after};
 ghost use Rattle.text.specs.Line.{up_to, starts, keyed_size, number_line};

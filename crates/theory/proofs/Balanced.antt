@@ -129,7 +129,8 @@ module _ {lab opp : ℕ → ℕ} {t v g : ℕ} {mesh : Sphere lab opp t v g} {sp
         has u (inr (inl e)) = let b = bit_refl (lab (previous g)) in rw e (omega arith)
         has u (inr (inr (j, l, c, e))) =
             let b = tips_has lab sp co q 0 ahead j (omega arith) (omega arith) c in
-            rw e (omega arith)
+            let a = rw (← e) at b in
+            omega arith
 
         at : (u : ℕ) → count u (vals (λ i. i) v) ≤ count u (lab (next g) ∷ (lab (previous g) ∷ tips lab q))
         at u = go (dec_lt u v)

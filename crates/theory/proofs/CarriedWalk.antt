@@ -3,6 +3,7 @@
 -- stay in range.
 --
 --   map_steps h q   the steps q with their corners carried by h
+use mathlib.Core.Bool.{Bool, ◌||◌}
 use mathlib.Core.List.{List, [], ◌∷◌, map}
 use mathlib.Core.Logic.{◌⊎◌, inl, inr}
 use mathlib.Core.Path.{◌∙◌, ◌≡◌, ap, refl, sym}
@@ -106,13 +107,20 @@ module _ {lab opp lab' opp' : ℕ → ℕ} {t v g g' : ℕ} {h a : ℕ → ℕ} 
       ap (λ (c : ℕ). lab' (previous c)) (sym iso.gate) ∙ ap lab' (sym (previous_map g low))
       ∙ iso.vertex (previous g) (previous_low t g low)
 
+  marks_name : (pre : List Step) (u : ℕ) → Low pre → u < v
+      → mem (a u) (marks lab' g' (map_steps h pre)) ≡ mem u (marks lab g pre)
+  unfolding mem marks
+  marks_name pre u l b =
+      let p = eqb_name u (lab (next g)) b (below (next g) (next_low t g low)) in
+      let q = eqb_name u (lab (previous g)) b (below (previous g) (previous_low t g low)) in
+      rw (left_end, right_end, p, q)
+      (ap (λ (z : Bool). eqb u (lab (next g)) || (eqb u (lab (previous g)) || z)) (tips_map pre u l b))
+
   marks_map : (pre : List Step) (c : ℕ) → Low pre → c < 3 * t
       → mem (lab' (h c)) (marks lab' g' (map_steps h pre)) ≡ mem (lab c) (marks lab g pre)
-  unfolding mem marks
   marks_map pre c l b =
-      let p = eqb_name (lab c) (lab (next g)) (below c b) (below (next g) (next_low t g low)) in
-      let q = eqb_name (lab c) (lab (previous g)) (below c b) (below (previous g) (previous_low t g low)) in
-      rw (iso.vertex c b, left_end, right_end, p, q, tips_map pre (lab c) l (below c b))
+      ap (λ (x : ℕ). mem x (marks lab' g' (map_steps h pre))) (iso.vertex c b)
+      ∙ marks_name pre (lab c) l (below c b)
 
   right_map : (c : ℕ) → c < 3 * t → right opp' (h c) ≡ h (right opp c)
   right_map c b = ap opp' (sym (iso.turning c b)) ∙ sym (iso.neighbour (next c) (next_low t c b))

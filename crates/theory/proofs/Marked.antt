@@ -4,16 +4,14 @@
 --   M6 to M10     the five ways in which letters are refused     M11 M12   a vertex without a corner, a second sphere
 use mathlib.Core.Path.{◌≡◌, refl}
 use mathlib.Core.Bool.{true}
-use mathlib.Core.List.{List, [], ◌∷◌, ◌++◌}
-use Prim.Native.Nat.{ℕ, ◌+◌}
-use lib.ListN.{length}
-use Rattle.theory.specs.declared.Answer.{Answer}
+use mathlib.Core.List.{List, [], ◌∷◌}
+use Prim.Native.Nat.{ℕ}
 use Rattle.theory.specs.declared.Letter.TheVariants.{C, L, E, R, S}
 use Rattle.theory.specs.Lists.{head, tail, front, back, mem, least, least_from, greatest, greatest_or, all, some, iter}
 use Rattle.theory.specs.Answer.{done, refused, first_broken, count_ok}
-use Rattle.theory.specs.Corner.{next, previous, vertex, opposite}
+use Rattle.theory.specs.Corner.{next, previous}
 use Rattle.theory.specs.Letter.{byte, letter, is_letter}
-use Rattle.theory.specs.Word.{Word, w_e, w_c, w_r, w_s, size, news, width, words, before, first_word, word_of}
+use Rattle.theory.specs.Word.{size, news, width, words, before, first_word, word_of}
 use Rattle.theory.specs.Judge.{wanted, words_end, pinched_at, string_answer}
 use Rattle.theory.specs.Tables.{vertices, links, zips, joins, join_at, joined, table_v, table_o}
 use Rattle.theory.specs.Mesh.{below_at, paired_at, glued_at, apart_at, first_corner, meets, ringed_at, touches, facing, reached, reached_at, shape_ok, mesh_answer}

@@ -20,7 +20,6 @@ use Rattle.theory.proofs.RingTests.{first_in, ringed_present}
 use Rattle.theory.proofs.SwingLaws.{Surface}
 use Rattle.theory.specs.Answer.{done, first_broken, room_rung, whole}
 use Rattle.theory.specs.Corner.{opposite, previous, triangle, vertex}
-use Rattle.theory.specs.Lists.{back}
 use Rattle.theory.specs.Mesh.{Accepted, apart_at, below_at, first_corner, glued_at, mesh_answer, mesh_rungs, paired_at, reached_at, ringed_at, shape_ok}
 
 module _ (vs os : List ℕ) (v g : ℕ) where

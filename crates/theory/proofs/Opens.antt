@@ -74,7 +74,11 @@ cover x k (w_r w) h = let i = cover x (k + 1) w h in omega arith
 cover x k (w_s a b) h =
     let i = cover x (k + 1) a h.0 in
     let j = cover x (k + 1 + size a) b h.1 in
-    rw (count_ends, count_ends, count_append, tris_append) (omega arith)
+    let l = count_ends x (links (k + 1) a) (links (k + 1 + size a) b) in
+    let m = count_ends x (mates (k + 1) a) (mates (k + 1 + size a) b) in
+    let o = count_append x (opens (k + 1) a) (opens (k + 1 + size a) b) in
+    let t = tris_append x (size a) (size b) (k + 1) in
+    omega arith
 
 -- the corners behind 3k of the triangles below m
 abbrev pub Within : ℕ → ℕ → ℕ → Type 0

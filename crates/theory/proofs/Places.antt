@@ -91,8 +91,14 @@ places_in u i (suc d) (y ∷ l) h e = go (ℕ_discrete u y) (places_in u (suc i)
   where
     go : Dec (u ≡ y) → 1 ≤ count (suc i + d) (places u (suc i) l)
         → 1 ≤ count (i + suc d) (cond (eqb u y) (i ∷ places u (suc i) l) (places u (suc i) l))
-    go (yes q) z = let p : i + suc d ≡ suc i + d = omega arith in rw (eq-eqb u y q, p) (omega arith)
-    go (no n) z = let p : i + suc d ≡ suc i + d = omega arith in rw (ne_eqb u y n, p) (omega arith)
+    go (yes q) z =
+        let p : i + suc d ≡ suc i + d = omega arith in
+        let a = rw (← p) at z in
+        rw (eq-eqb u y q) (omega arith)
+    go (no n) z =
+        let p : i + suc d ≡ suc i + d = omega arith in
+        let a = rw (← p) at z in
+        rw (ne_eqb u y n) (omega arith)
 
 pub places_at : (u d : ℕ) (l : List ℕ) → d < length l → get_or l d 0 ≡ u → 1 ≤ count d (places u 0 l)
 places_at u d l h e = let q : 0 + d ≡ d = omega arith in rw q at (places_in u 0 d l h e)

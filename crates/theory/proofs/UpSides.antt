@@ -90,7 +90,9 @@ module _ (sp : ℕ → Letter) where
   parts x (suc n) k =
       let i = parts x n (k + 1) in
       let j = sides_at (sp k) x k in
-      rw (count_append, count_append) (omega arith)
+      let a = count_append x (up_at (sp k) k) (ups (k + 1) n) in
+      let b = count_append x (down_at (sp k) k) (downs (k + 1) n) in
+      omega arith
 
   pub ups_in : (x n k : ℕ) → 1 ≤ count x (ups k n) → (j : ℕ) × (j < k + n) × (1 ≤ count x (up_at (sp j) j))
   unfolding ups count

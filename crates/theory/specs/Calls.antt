@@ -4,7 +4,7 @@
 --   cleared keep a work  the work space after the answer a: untouched by the refusals keep, else zero, its whole length
 --   Judges Reads         the promises of judge_string and read_string, field by field
 --   Checks Writes        the promises of check_mesh and write_string
-use Rattle.std.specs.Prelude.{◌≡◌, Bool, cond, ◌&&◌, List, [], ◌∷◌, ◌++◌, ℕ, ◌+◌, ◌*◌, ◌/◌, eqb, leb, length, drop, replicate}
+use Rattle.std.specs.Prelude.{◌≡◌, cond, ◌&&◌, List, [], ◌∷◌, ◌++◌, ℕ, ◌*◌, ◌/◌, eqb, leb, length, drop, replicate}
 use Rattle.theory.specs.declared.Answer.{Answer}
 use Rattle.theory.specs.Lists.{mem}
 use Rattle.theory.specs.Word.{word_of}

@@ -6,7 +6,7 @@
 --   greatest ok n          the greatest such i, n where there is none
 --   all ok n, some ok n    the test holds at every, at some i below n
 --   iter f n x             f applied n times to x
-use Rattle.std.specs.Prelude.{Bool, true, false, not, cond, ◌||◌, List, [], ◌∷◌, ℕ, zero, suc, eqb}
+use Rattle.std.specs.Prelude.{Bool, false, not, cond, ◌||◌, List, [], ◌∷◌, ℕ, zero, suc, eqb}
 
 unfoldable pub head : List ℕ → ℕ
 head [] = 0

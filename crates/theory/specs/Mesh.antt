@@ -8,7 +8,7 @@
 --   mesh_rungs                   the checks 8 to 15 in their order
 --   mesh_answer                  the answer for a mesh; fits says whether what is lent is long enough
 --   Sphere                      the seven rules as properties
-use Rattle.std.specs.Prelude.{◌≡◌, ◌≢◌, Bool, true, not, cond, ◌&&◌, ◌||◌, List, [], ◌∷◌, ◌++◌, ℕ, zero, suc, ◌+◌, ◌*◌, ◌/◌, ◌%◌, ◌<◌, eqb, ltb, leb, length}
+use Rattle.std.specs.Prelude.{◌≡◌, ◌≢◌, Bool, true, not, cond, ◌&&◌, ◌||◌, List, [], ◌∷◌, ◌++◌, ℕ, zero, suc, ◌+◌, ◌*◌, ◌/◌, ◌%◌, ◌<◌, eqb, ltb, length}
 use Rattle.theory.specs.declared.Answer.{Answer}
 use Rattle.theory.specs.Lists.{mem, least, all, some, iter}
 use Rattle.theory.specs.Answer.{Rung, each, whole, first_broken, done, count_ok, room_rung}

@@ -1,5 +1,6 @@
 // Document 01 as definitions (specs/) and what follows from them (proofs/). No function is here: only the two types
 // that definitions and code share.
+#![tactic(auto)]
 
 // What a call answers. Done is number 0, place 0 and the two counts; a refusal has both counts 0.
 #[repr(C)]

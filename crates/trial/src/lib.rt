@@ -8,6 +8,8 @@
 //     at store       an entry of a table, 999,999,999 beyond it; a change of one, none beyond it
 //     plus           a sum of counts
 //     number show space  prints a number behind its name; an answer; what is in a work space
+#![tactic(auto)]
+
 ghost use Rattle.std.specs.Prelude.{◌≡◌, cond, ◌≤◌, eqb, get_or, set};
 ghost use Rattle.trial.specs.Same.{Tells};
 

@@ -4,6 +4,8 @@
 //     groups     for each string its gates; for each gate but the first the renumbering from the first by the walk
 //                tables, whether the search finds one, and whether it is equal
 //     one two    a mesh with itself, groups and every pair of gates; two meshes of 10 triangles, every pair of gates
+#![tactic(auto)]
+
 mod compare;
 mod maps;
 

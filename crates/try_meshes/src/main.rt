@@ -2,6 +2,8 @@
 // largest.
 //
 // The work space is all nines before a call: how many nines and zeros it has after it.
+#![tactic(auto)]
+
 use trial::{equal, plus, rise, same, show, space, spell};
 
 fn check_in(name: &[u8], vs: &[u32], os: &[u32], v: u32, gate: u32, work: &mut [u32]) {

@@ -1,5 +1,7 @@
 // Records that the reader takes and refuses, each printed as unpack prints it; and records that are written and read
 // back.
+#![tactic(auto)]
+
 fn main() {
     small();
     more();

@@ -2,6 +2,8 @@
 //
 // Tables and work space are all nines before a call: 999,999,999 is neither a vertex nor a corner. After it, how many
 // nines V and O kept, and how many nines and zeros the work space has.
+#![tactic(auto)]
+
 use trial::{entries, nines, plus, rise, same, show, space, spell};
 
 // How many of the first total strings as long as s are accepted.

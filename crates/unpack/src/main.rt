@@ -2,6 +2,8 @@
 //
 // 2,049 bytes are enough to tell that there are more than 2,048. The tables, the work space and the buffer are those of
 // 800 triangles; all that is printed comes from print::unpack.
+#![tactic(auto)]
+
 fn main() {
     let mut bytes = [0u8; 2049];
     let n = io::read_full(0, &mut bytes);

@@ -2,6 +2,8 @@
 //
 // work is one table: work[k] for triangle k, work[t + u] for vertex u, not 0 where visited or marked; the steps made
 // stand from 3t on; the waiting lefts are a stack that grows down from its end, its top at p.
+#![tactic(auto)]
+
 ghost use Rattle.std.specs.Prelude.{◌≡◌, ◌+◌, ◌*◌, ◌≤◌, ◌<◌, length, set};
 ghost use Rattle.theory.specs.Corner.{vertex};
 ghost use Rattle.theory.specs.Letter.{byte};
