@@ -1,0 +1,12 @@
+-- `clear` meets its contract. The first i numbers are zero and the rest is as it came; the measure is what is left.
+use mathlib.Core.List.{◌++◌}
+use mathlib.Core.Path.{◌≡◌}
+use Prim.Native.Nat.{◌-◌, ◌≤◌}
+use lib.ListN.{drop, length, replicate}
+use Rattle.lent.proofs.clear.Given as goal
+
+abbrev pub invariant-loop-i : goal.invariant-loop-i
+invariant-loop-i l = (l.i ≤ length l.initial.work) × (length l.work ≡ length l.initial.work) × (l.work ≡ replicate l.i 0 ++ drop l.i l.initial.work)
+
+abbrev pub decreases-loop-i : goal.decreases-loop-i
+decreases-loop-i l = length l.initial.work - l.i
