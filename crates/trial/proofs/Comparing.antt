@@ -4,8 +4,7 @@
 --   begun turn   before the loop, and a turn
 --   end          the answer 1
 use mathlib.Core.List.{List}
-use mathlib.Core.Logic.{◌≢◌}
-use mathlib.Core.Path.{◌≡◌, ap, subst, sym}
+use mathlib.Core.Path.{◌≡◌, subst, sym}
 use Prim.Native.Nat.{◌+◌, ◌<◌, ◌≤◌, ℕ}
 use native.Mathlib.Decide.{ℕ_discrete}
 use native.Mathlib.Omega.{arith}

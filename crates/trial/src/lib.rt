@@ -13,6 +13,7 @@
 ghost use Rattle.std.specs.Prelude.{◌≡◌, cond, ◌≤◌, eqb, get_or, set};
 ghost use Rattle.trial.specs.Same.{Tells};
 
+use std::io;
 use theory::Answer;
 
 fn letter(d: u32) -> u8 {
@@ -163,20 +164,20 @@ pub fn plus(a: u64, b: u64) -> u64 {
     a + b
 }
 
-pub fn number(name: &[u8], x: u64) {
-    io::write_all(1, name);
-    io::print_decimal(1, x);
+pub fn number(rt: &impl Print, name: &[u8], x: u64) -> io::Result<()> {
+    rt.write_all(name)?;
+    rt.print(x)
 }
 
-pub fn show(a: Answer) {
-    number(b" number=", a.number as u64);
-    number(b" place=", a.place as u64);
-    number(b" t=", a.t as u64);
-    number(b" v=", a.v as u64);
+pub fn show(rt: &impl Print, a: Answer) -> io::Result<()> {
+    number(rt, b" number=", a.number as u64)?;
+    number(rt, b" place=", a.place as u64)?;
+    number(rt, b" t=", a.t as u64)?;
+    number(rt, b" v=", a.v as u64)
 }
 
-pub fn space(work: &[u32]) {
-    number(b" work kept=", entries(work, 999999999));
-    number(b" zero=", entries(work, 0));
-    io::write_all(1, b"\n");
+pub fn space(rt: &impl Print, work: &[u32]) -> io::Result<()> {
+    number(rt, b" work kept=", entries(work, 999999999))?;
+    number(rt, b" zero=", entries(work, 0))?;
+    rt.write_all(b"\n")
 }

@@ -4,6 +4,7 @@
 //     pair     two gates: their strings are equal exactly where the search finds a renumbering, and it is the one that
 //              the walk tables show; else there is a difference and the line DIFFERENCE
 use crate::maps::{Gates, same_string, search, shown};
+use std::io;
 use trial::{alike, number, plus};
 
 #[derive(Drop)]
@@ -15,13 +16,13 @@ pub struct Seen {
     pub differ: u64,
 }
 
-pub fn tell(name: &[u8], s: Seen) {
-    number(name, s.pairs);
-    number(b" equal strings=", s.equal);
-    number(b" renumberings=", s.found);
-    number(b" as the walk tables show=", s.shown);
-    number(b" differences=", s.differ);
-    io::write_all(1, b"\n");
+pub fn tell(rt: &impl Print, name: &[u8], s: Seen) -> io::Result<()> {
+    number(rt, name, s.pairs)?;
+    number(rt, b" equal strings=", s.equal)?;
+    number(rt, b" renumberings=", s.found)?;
+    number(rt, b" as the walk tables show=", s.shown)?;
+    number(rt, b" differences=", s.differ)?;
+    rt.write_all(b"\n")
 }
 
 // Pairs of gates, those with equal strings and the renumbering that the walk tables show, and differences.
@@ -46,40 +47,48 @@ fn sum(a: Seen, b: Seen) -> Seen {
 }
 
 // Equal strings and the renumbering that the walk tables show, or neither: else a difference, which is printed.
-fn judged(equal: u64, found: u64, alike: u64, g: u32, h: u32) -> Seen {
+fn judged(rt: &impl Print, equal: u64, found: u64, alike: u64, g: u32, h: u32) -> io::Result<Seen> {
     if equal == 0 {
         if found == 0 {
-            return counted(1, 0, 0);
+            return Ok(counted(1, 0, 0));
         }
     }
     if equal == 1 {
         if found == 1 {
             if alike == 1 {
-                return counted(1, 1, 0);
+                return Ok(counted(1, 1, 0));
             }
         }
     }
-    number(b"DIFFERENCE at gates ", g as u64);
-    number(b" and ", h as u64);
-    number(b": equal strings=", equal);
-    number(b" renumbering=", found);
-    number(b" as the walk tables show=", alike);
-    io::write_all(1, b"\n");
-    Seen {
+    number(rt, b"DIFFERENCE at gates ", g as u64)?;
+    number(rt, b" and ", h as u64)?;
+    number(rt, b": equal strings=", equal)?;
+    number(rt, b" renumbering=", found)?;
+    number(rt, b" as the walk tables show=", alike)?;
+    rt.write_all(b"\n")?;
+    Ok(Seen {
         pairs: 1,
         equal,
         found,
         shown: alike,
         differ: 1,
-    }
+    })
 }
 
-fn pair(v0: &[u32], o0: &[u32], v1: &[u32], o1: &[u32], p: Gates) -> Seen {
+fn pair(
+    rt: &impl Print,
+    v0: &[u32],
+    o0: &[u32],
+    v1: &[u32],
+    o1: &[u32],
+    p: Gates,
+) -> io::Result<Seen> {
     let mut walked = [0u32; 30];
     let mut map = [0u32; 30];
     shown(v0, o0, v1, o1, p, &mut walked);
     let found = search(v0, o0, v1, o1, p, &mut map);
     judged(
+        rt,
         same_string(v0, o0, v1, o1, p),
         found,
         alike(&walked, &map),
@@ -89,22 +98,39 @@ fn pair(v0: &[u32], o0: &[u32], v1: &[u32], o1: &[u32], p: Gates) -> Seen {
 }
 
 // Gate g with every gate, then every gate with every gate.
-fn pairs_of(v0: &[u32], o0: &[u32], v1: &[u32], o1: &[u32], v: u32, n: u32, g: u32) -> Seen {
+fn pairs_of(
+    rt: &impl Print,
+    v0: &[u32],
+    o0: &[u32],
+    v1: &[u32],
+    o1: &[u32],
+    v: u32,
+    n: u32,
+    g: u32,
+) -> io::Result<Seen> {
     let mut seen = counted(0, 0, 0);
     let mut h = 0;
     while h < n {
-        seen = sum(seen, pair(v0, o0, v1, o1, Gates { v, n, g, h }));
+        seen = sum(seen, pair(rt, v0, o0, v1, o1, Gates { v, n, g, h })?);
         h += 1;
     }
-    seen
+    Ok(seen)
 }
 
-pub fn pairs(v0: &[u32], o0: &[u32], v1: &[u32], o1: &[u32], v: u32, n: u32) -> Seen {
+pub fn pairs(
+    rt: &impl Print,
+    v0: &[u32],
+    o0: &[u32],
+    v1: &[u32],
+    o1: &[u32],
+    v: u32,
+    n: u32,
+) -> io::Result<Seen> {
     let mut seen = counted(0, 0, 0);
     let mut g = 0;
     while g < n {
-        seen = sum(seen, pairs_of(v0, o0, v1, o1, v, n, g));
+        seen = sum(seen, pairs_of(rt, v0, o0, v1, o1, v, n, g)?);
         g += 1;
     }
-    seen
+    Ok(seen)
 }

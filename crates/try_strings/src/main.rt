@@ -4,6 +4,7 @@
 // nines V and O kept, and how many nines and zeros the work space has.
 #![tactic(auto)]
 
+use std::io;
 use trial::{entries, nines, plus, rise, same, show, space, spell};
 
 // How many of the first total strings as long as s are accepted.
@@ -19,63 +20,76 @@ fn accepted(total: u32, s: &mut [u8], vs: &mut [u32], os: &mut [u32], work: &mut
     found
 }
 
-fn count(total: u32, s: &mut [u8]) {
+fn count(rt: &impl Print, total: u32, s: &mut [u8]) -> io::Result<()> {
     let mut vs = [0u32; 24];
     let mut os = [0u32; 24];
     let mut work = [0u32; 96];
     let n = accepted(total, s, &mut vs, &mut os, &mut work);
-    io::write_all(1, b"t=");
-    io::print_decimal(1, s.len() as u64);
-    io::write_all(1, b" accepted=");
-    io::print_decimal(1, n);
-    io::write_all(1, b"\n");
+    rt.write_all(b"t=")?;
+    rt.print(s.len() as u64)?;
+    rt.write_all(b" accepted=")?;
+    rt.print(n)?;
+    rt.write_all(b"\n")
 }
 
 // Reads s, and looks at the tables and the work space.
-fn read_into(s: &[u8], vs: &mut [u32], os: &mut [u32], work: &mut [u32]) {
+fn read_into(
+    rt: &impl Print,
+    s: &[u8],
+    vs: &mut [u32],
+    os: &mut [u32],
+    work: &mut [u32],
+) -> io::Result<()> {
     let a = conn::read_string(s, vs, os, work);
-    show(a);
-    io::write_all(1, b" kept=");
-    io::print_decimal(1, entries(vs, 999999999));
-    io::write_all(1, b",");
-    io::print_decimal(1, entries(os, 999999999));
-    space(work);
+    show(rt, a)?;
+    rt.write_all(b" kept=")?;
+    rt.print(entries(vs, 999999999))?;
+    rt.write_all(b",")?;
+    rt.print(entries(os, 999999999))?;
+    space(rt, work)
 }
 
-fn read(s: &[u8]) {
+fn read(rt: &impl Print, s: &[u8]) -> io::Result<()> {
     let mut vs = [999999999u32; 20];
     let mut os = [999999999u32; 20];
     let mut work = [999999999u32; 80];
-    io::write_all(1, s);
-    read_into(s, &mut vs, &mut os, &mut work);
+    rt.write_all(s)?;
+    read_into(rt, s, &mut vs, &mut os, &mut work)
 }
 
 // The same with room for it, but one number short in V, in O, in the work space; then with room.
-fn read_short(s: &[u8]) {
+fn read_short(rt: &impl Print, s: &[u8]) -> io::Result<()> {
     let mut short = [999999999u32; 11];
     let mut vs = [999999999u32; 12];
     let mut os = [999999999u32; 12];
     let mut short_work = [999999999u32; 47];
     let mut work = [999999999u32; 48];
-    io::write_all(1, s);
-    read_into(s, &mut short, &mut os, &mut work);
-    io::write_all(1, s);
-    read_into(s, &mut vs, &mut short, &mut work);
-    io::write_all(1, s);
-    read_into(s, &mut vs, &mut os, &mut short_work);
-    io::write_all(1, s);
-    read_into(s, &mut vs, &mut os, &mut work);
+    rt.write_all(s)?;
+    read_into(rt, s, &mut short, &mut os, &mut work)?;
+    rt.write_all(s)?;
+    read_into(rt, s, &mut vs, &mut short, &mut work)?;
+    rt.write_all(s)?;
+    read_into(rt, s, &mut vs, &mut os, &mut short_work)?;
+    rt.write_all(s)?;
+    read_into(rt, s, &mut vs, &mut os, &mut work)
 }
 
 // n Cs, then Rs, then E.
-fn long(s: &mut [u8], n: usize, vs: &mut [u32], os: &mut [u32], work: &mut [u32]) {
+fn long(
+    rt: &impl Print,
+    s: &mut [u8],
+    n: usize,
+    vs: &mut [u32],
+    os: &mut [u32],
+    work: &mut [u32],
+) -> io::Result<()> {
     rise(s, n);
     nines(vs);
     nines(os);
     nines(work);
-    io::write_all(1, b"length ");
-    io::print_decimal(1, s.len() as u64);
-    read_into(s, vs, os, work);
+    rt.write_all(b"length ")?;
+    rt.print(s.len() as u64)?;
+    read_into(rt, s, vs, os, work)
 }
 
 fn longest_text() -> [u8; 65536] {
@@ -95,41 +109,41 @@ fn long_space() -> [u32; 786440] {
 }
 
 // Every string of a few letters.
-fn all() {
+fn all(rt: &impl Print) -> io::Result<()> {
     let mut two = [0u8; 2];
     let mut four = [0u8; 4];
     let mut six = [0u8; 6];
     let mut eight = [0u8; 8];
-    count(25, &mut two);
-    count(625, &mut four);
-    count(15625, &mut six);
-    count(390625, &mut eight);
+    count(rt, 25, &mut two)?;
+    count(rt, 625, &mut four)?;
+    count(rt, 15625, &mut six)?;
+    count(rt, 390625, &mut eight)
 }
 
-fn each() {
-    read(b"");
-    read(b"CEE");
-    read(b"CCxE");
-    read(b"CCSE");
-    read(b"EC");
-    read(b"CERE");
-    read(b"CCEE");
-    read(b"CCCE");
-    read(b"LE");
-    read(b"CCLE");
-    read(b"CE");
-    read_short(b"CCRE");
+fn each(rt: &impl Print) -> io::Result<()> {
+    read(rt, b"")?;
+    read(rt, b"CEE")?;
+    read(rt, b"CCxE")?;
+    read(rt, b"CCSE")?;
+    read(rt, b"EC")?;
+    read(rt, b"CERE")?;
+    read(rt, b"CCEE")?;
+    read(rt, b"CCCE")?;
+    read(rt, b"LE")?;
+    read(rt, b"CCLE")?;
+    read(rt, b"CE")?;
+    read_short(rt, b"CCRE")
 }
 
-fn main() {
-    all();
-    each();
+fn main(rt: HostRuntime) -> io::Result<()> {
+    all(&rt)?;
+    each(&rt)?;
     let mut longest = longest_text();
     let mut longer = longer_text();
     let mut vs = long_table();
     let mut os = long_table();
     let mut work = long_space();
-    long(&mut longest, 32768, &mut vs, &mut os, &mut work);
-    long(&mut longest, 32769, &mut vs, &mut os, &mut work);
-    long(&mut longer, 32769, &mut vs, &mut os, &mut work);
+    long(&rt, &mut longest, 32768, &mut vs, &mut os, &mut work)?;
+    long(&rt, &mut longest, 32769, &mut vs, &mut os, &mut work)?;
+    long(&rt, &mut longer, 32769, &mut vs, &mut os, &mut work)
 }

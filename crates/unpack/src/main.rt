@@ -4,19 +4,23 @@
 // 800 triangles; all that is printed comes from print::unpack.
 #![tactic(auto)]
 
-fn main() {
-    let mut bytes = [0u8; 2049];
-    let n = io::read_full(0, &mut bytes);
+use std::io;
+use std::io::Read;
+
+fn main(rt: HostRuntime) -> io::Result<()> {
+    let mut bytes = Vec::new(rt.alloc());
+    rt.reader().take(2049).read_to_end(&mut bytes)?;
     let mut vs = [0u32; 2400];
     let mut os = [0u32; 2400];
     let mut work = [0u32; 9600];
     let mut out = [0u8; 66446];
-    let size = print::unpack(&bytes[..n], &mut vs, &mut os, &mut work, &mut out);
-    write_first(&out, size);
+    let size = print::unpack(&bytes, &mut vs, &mut os, &mut work, &mut out);
+    write_first(&rt, &out, size)
 }
 
-fn write_first(out: &[u8], size: usize) {
+fn write_first(rt: &impl Print, out: &[u8], size: usize) -> io::Result<()> {
     if size <= out.len() {
-        io::write_all(1, &out[..size]);
+        rt.write_all(&out[..size])?;
     }
+    Ok(())
 }
