@@ -7,7 +7,7 @@ use crate::maps::{Gates, same_string, search, shown};
 use std::io;
 use trial::{alike, number, plus};
 
-#[derive(Drop)]
+#[derive(Clone, Copy)]
 pub struct Seen {
     pub pairs: u64,
     pub equal: u64,
