@@ -11,7 +11,7 @@ use Prim.Native.Nat.{◌*◌, ◌+◌, ◌-◌, ◌<◌, ◌≤◌, suc, zero, �
 use native.Mathlib.Omega.{arith}
 use lib.Dec.{eqb}
 use lib.ListN.{drop, drop_of_length-le, get_or, length, length-drop}
-use lib.Seq.{drop-cons, drop_length}
+use lib.Seq.{drop-cons, drop-length}
 use borrow.Author.Tests.{eqb-true}
 use Rattle.judge.proofs.Folds.{Folded, folded_before, folded_closes, folded_last, folded_wide}
 use Rattle.judge.proofs.WidthLaws.{before_length, before_total}
@@ -43,8 +43,8 @@ folds_begin s w h e =
       at = omega arith;
       same = refl;
       within = omega arith;
-      folded = rw (last_alone s h e, drop_length w) folded_last;
-      small = rw (drop_length w) (omega arith);
+      folded = rw (last_alone s h e, drop-length w) folded_last;
+      small = rw (drop-length w) (omega arith);
       room = omega arith;
     }
 

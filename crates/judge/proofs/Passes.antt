@@ -11,7 +11,7 @@ use Prim.Native.Nat.{◌*◌, ◌-◌, ◌<◌, ◌≤◌, suc, zero, ℕ}
 use native.Mathlib.Omega.{arith}
 use lib.Dec.{eqb}
 use lib.ListN.{drop, get_or, length, length-drop}
-use lib.Seq.{drop-cons, drop_length}
+use lib.Seq.{drop-cons, drop-length}
 use borrow.Author.Tests.{eq-eqb, ne_eqb}
 use Rattle.judge.proofs.WidthLaws.{before_length, before_total, before_wide, two_first, widths, widths_before_lem}
 use Rattle.judge.specs.Widths.{Ready, Stepped, Wide, total, widths_before}
@@ -43,10 +43,10 @@ begins s w =
       at = omega arith;
       same = refl;
       within = omega arith;
-      stack = rw (drop_length s, drop_length w);
+      stack = rw (drop-length s, drop-length w);
       free = λ y h k. absurd (omega arith);
-      wide = rw (drop_length w) tt;
-      small = rw (drop_length w) (omega arith);
+      wide = rw (drop-length w) tt;
+      small = rw (drop-length w) (omega arith);
       room = omega arith;
     }
 

@@ -11,7 +11,7 @@ use Prim.Native.Nat.{◌+◌, ◌-◌, ◌<◌, ◌≤◌, suc, ℕ}
 use native.Mathlib.Numerals.{add-one}
 use native.Mathlib.Omega.{arith}
 use lib.ListN.{drop, drop_of_length-le, get_or, length, length-drop, length-set, set}
-use lib.Seq.{drop-cons, drop_length}
+use lib.Seq.{drop-cons, drop-length}
 use Rattle.judge.specs.Widths.{Stepped, Wide, total, widths_before}
 use Rattle.lent.proofs.Stacks.{push_set, top_set}
 use Rattle.theory.specs.declared.Letter.{Letter}
@@ -39,7 +39,7 @@ module _ (l : List ℕ) (p : ℕ) where
 
   pub merge_none : length l - p < 2 → p ≤ length l → drop (length l) l ≡ widths_before S (drop p l)
   unfolding widths_before
-  merge_none h k = rw (drop_length l) (go (drop p l) (omega (arith, length-drop p l)))
+  merge_none h k = rw (drop-length l) (go (drop p l) (omega (arith, length-drop p l)))
     where
       go : (st : List ℕ) → length st < 2 → [] ≡ widths_before S st
       go [] z = refl

@@ -12,7 +12,7 @@ use native.Mathlib.Decide.{dec_lt, ℕ_discrete}
 use native.Mathlib.Omega.{arith}
 use lib.Dec.{eqb, ltb}
 use lib.ListN.{get_or-append, drop, get_or, get_or-replicate, length, length-drop, length-replicate, length-set, replicate, set}
-use lib.Seq.{drop-cons, drop_length, get_or-set_other, get_or-set_same}
+use lib.Seq.{drop-cons, drop-length, get_or-set_other, get_or-set_same}
 use borrow.Author.Tests.{le-ltb, lt-ltb}
 use Rattle.ring.specs.Tally.{First, Tallied, Zeros, tallied}
 use Rattle.theory.proofs.Counting.{bit, bit_off, count}
@@ -38,7 +38,7 @@ tally_start vs work z =
     record { counts = λ u h. z u h ∙ sym (zero_count u); firsts = λ u h p. absurd (omega (arith, zero_count u)) }
   where
     zero_count : (u : ℕ) → count u (drop (length vs) vs) ≡ 0
-    zero_count u = rw (drop_length vs) refl
+    zero_count u = rw (drop-length vs) refl
 
 -- a count stays below the number of corners while one is left
 pub tally_room : (vs work : List ℕ) (c u : ℕ) → c < length vs → Tallied vs (suc c) work → u < length vs

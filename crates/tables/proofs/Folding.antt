@@ -11,7 +11,7 @@ use Prim.Native.Nat.{◌*◌, ◌+◌, ◌-◌, ◌<◌, ◌≤◌, suc, zero, �
 use native.Mathlib.Omega.{arith}
 use lib.Dec.{eqb}
 use lib.ListN.{drop, get_or, length}
-use lib.Seq.{drop_length}
+use lib.Seq.{drop-length}
 use borrow.Author.Tests.{eqb-false}
 use Rattle.tables.proofs.Enough.{Enough, Full, full_at, full_cons, full_word, one_open, words_cons}
 use Rattle.tables.proofs.Folds.{standing_c, standing_l, standing_r}
@@ -144,18 +144,18 @@ pub begins : (s work : List ℕ) → Foldable s work → Folding s work work 0 0
 unfolding words
 begins s work h =
     let n = h.some in
-    let none : words (drop (length s) s) ≡ [] = rw (drop_length s) in
+    let none : words (drop (length s) s) ≡ [] = rw (drop-length s) in
     record {
       at = omega arith;
       same = refl;
       known = λ y a b. absurd (omega arith);
-      full = rw (drop_length s) tt;
+      full = rw (drop-length s) tt;
       within = omega arith;
       deep = omega (arith, ap (λ (ws : List Word). length ws) none);
       high = omega arith;
       first_low = omega arith;
       last_low = omega arith;
-      stands = rw (drop_length s) tt;
+      stands = rw (drop-length s) tt;
     }
 
 module _ (s work₀ work : List ℕ) (first last top i : ℕ) (can : Foldable s work₀)

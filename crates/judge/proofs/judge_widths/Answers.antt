@@ -16,7 +16,7 @@ pub loop-i-preserved : goal.loop-i-preserved
 loop-i-preserved c =
     let inv = c.loop-i.invariant in
     let calm = sym c.pinched.ensures ∙ c.if-pinched.false in
-    let same = c.step-p.auto.1.0 in
+    let same = c.step-p.auto.work in
     (inv.0, turns _ _ _ _ _ inv.1 c.loop-i-test.true _ _ same calm c.step-p.ensures)
 
 pub returns-then-top-ne2 : goal.returns-then-top-ne2

@@ -1,7 +1,6 @@
 use mathlib.Core.Path.{◌∙◌, ap, sym}
 use Prim.Native.Nat.{◌-◌}
 use native.Mathlib.Omega.{arith}
-use borrow.Author.Tests.{not-true}
 use Rattle.ring.proofs.Turns.{rings_full}
 use Rattle.theory.proofs.LeastLaws.{least_all, scan_stop}
 use Rattle.theory.specs.Mesh.{ringed_at}
@@ -20,7 +19,7 @@ returns-then-not-ringed_at c =
     let at-u = ap (ringed_at a.vs.now a.os.now) (sym c.wide-at.ensures) in
     scan_stop (ringed_at a.vs.now a.os.now) a.v _ c.loop-u.invariant
     c.loop-u-test.true
-    (at-u ∙ sym c.ringed_at.ensures ∙ not-true _ c.if-not-ringed_at.true)
+    (at-u ∙ sym c.ringed_at.ensures ∙ c.if-not-ringed_at.true)
 
 pub returns : goal.returns
 returns c =

@@ -24,7 +24,7 @@ loop-c-preserved c =
     let p = c.loop-c-test.true in
     let call = c.tally in (
       omega (arith, i.0),
-      call.auto.1.0 ∙ i.1,
+      omega arith,
       tally_again c.args.vs.now _ _ _ p i.0
           (omega (arith, c.requires.1, i.1)) i.2 call.ensures,
     )

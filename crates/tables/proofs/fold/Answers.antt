@@ -19,7 +19,7 @@ pub loop-i-preserved : goal.loop-i-preserved
 loop-i-preserved c =
     let inv = c.loop-i.invariant in
     let on = sym c.stops.ensures ∙ c.if-stops.false in
-    let same = c.step-ends.auto.1.1.1.1.1.1.0 in
+    let same = c.step-ends.auto.work in
     let turned = folding_turn _ _ _ _ _ _ _ c.requires inv.2 c.loop-i-test.true _ _ _ _ same _ inv.1 on in
     (inv.0, inv.1 ∙ sym same, turned _ inv.0 c.step-ends.ensures)
 

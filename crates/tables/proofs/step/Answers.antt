@@ -8,24 +8,24 @@ use Rattle.tables.proofs.step.Goals as goal
 pub returns-in-C : goal.returns-in-C
 unfolding fold_step
 returns-in-C c =
-    step_letter _ _ _ C _ (sym c.enum_told-1.given.1 ∙ c.letter_of.ensures) c.fold_c.ensures
+    step_letter _ _ _ C _ (sym c.in-C.is ∙ c.letter_of.ensures) c.fold_c.ensures
 
 pub returns-in-L : goal.returns-in-L
 unfolding fold_step
 returns-in-L c =
-    step_letter _ _ _ L _ (sym c.enum_told-in-L-1.given.1 ∙ c.letter_of.ensures) c.fold_l.ensures
+    step_letter _ _ _ L _ (sym c.in-L.is ∙ c.letter_of.ensures) c.fold_l.ensures
 
 pub returns-in-E : goal.returns-in-E
 unfolding fold_step
 returns-in-E c =
-    step_letter _ _ _ E _ (sym c.enum_told-in-E-1.given.1 ∙ c.letter_of.ensures) c.fold_e.ensures
+    step_letter _ _ _ E _ (sym c.in-E.is ∙ c.letter_of.ensures) c.fold_e.ensures
 
 pub returns-in-R : goal.returns-in-R
 unfolding fold_step
 returns-in-R c =
-    step_letter _ _ _ R _ (sym c.enum_told-in-R-1.given.1 ∙ c.letter_of.ensures) c.fold_r.ensures
+    step_letter _ _ _ R _ (sym c.in-R.is ∙ c.letter_of.ensures) c.fold_r.ensures
 
 pub returns-in-S : goal.returns-in-S
 unfolding fold_step
 returns-in-S c =
-    step_letter _ _ _ S _ (sym c.enum_told-in-S-1.given.1 ∙ c.letter_of.ensures) c.fold_s.ensures
+    step_letter _ _ _ S _ (sym c.in-S.is ∙ c.letter_of.ensures) c.fold_s.ensures

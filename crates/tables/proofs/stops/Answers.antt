@@ -5,25 +5,25 @@ use Rattle.tables.proofs.stops.Goals as goal
 
 pub returns-then-deep-lt3 : goal.returns-then-deep-lt3
 returns-then-deep-lt3 c =
-    stops_c _ _ _ _ (sym c.enum_told-1.given.1 ∙ c.letter_of.ensures) c.if-deep-lt3.true
+    stops_c _ _ _ _ (sym c.in-C.is ∙ c.letter_of.ensures) c.if-deep-lt3.true
 
 pub returns-then-deep-lt6 : goal.returns-then-deep-lt6
 returns-then-deep-lt6 c =
-    stops_s _ _ _ _ (sym c.enum_told-in-S-1.given.1 ∙ c.letter_of.ensures) c.if-deep-lt6.true
+    stops_s _ _ _ _ (sym c.in-S.is ∙ c.letter_of.ensures) c.if-deep-lt6.true
 
 pub returns-else-deep-lt3 : goal.returns-else-deep-lt3
 returns-else-deep-lt3 c =
-    tests_c _ _ _ _ (sym c.enum_told-1.given.1 ∙ c.letter_of.ensures) c.if-deep-lt3.false
+    tests_c _ _ _ _ (sym c.in-C.is ∙ c.letter_of.ensures) c.if-deep-lt3.false
 
 pub returns-in-L : goal.returns-in-L
-returns-in-L c = tests_l _ _ _ _ (sym c.enum_told-in-L-1.given.1 ∙ c.letter_of.ensures)
+returns-in-L c = tests_l _ _ _ _ (sym c.in-L.is ∙ c.letter_of.ensures)
 
 pub returns-in-E : goal.returns-in-E
-returns-in-E c = tests_e _ _ _ _ (sym c.enum_told-in-E-1.given.1 ∙ c.letter_of.ensures)
+returns-in-E c = tests_e _ _ _ _ (sym c.in-E.is ∙ c.letter_of.ensures)
 
 pub returns-in-R : goal.returns-in-R
-returns-in-R c = tests_r _ _ _ _ (sym c.enum_told-in-R-1.given.1 ∙ c.letter_of.ensures)
+returns-in-R c = tests_r _ _ _ _ (sym c.in-R.is ∙ c.letter_of.ensures)
 
 pub returns-else-deep-lt6 : goal.returns-else-deep-lt6
 returns-else-deep-lt6 c =
-    tests_s _ _ _ _ (sym c.enum_told-in-S-1.given.1 ∙ c.letter_of.ensures) c.if-deep-lt6.false
+    tests_s _ _ _ _ (sym c.in-S.is ∙ c.letter_of.ensures) c.if-deep-lt6.false

@@ -11,7 +11,7 @@ step-s-requires c = steppable c.loop-n.invariant c.loop-n-test.true
 
 pub loop-n-preserved : goal.loop-n-preserved
 loop-n-preserved c =
-    turn c.loop-n.invariant c.loop-n-test.true c.step-s.auto.1.1.0 c.step-s.ensures c.keep.ensures
+    turn c.loop-n.invariant c.loop-n-test.true c.step-s.auto.work c.step-s.ensures c.keep.ensures
 
 pub returns : goal.returns
 returns c = end c.loop-n.invariant c.loop-n-test.false

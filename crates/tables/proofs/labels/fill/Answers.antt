@@ -7,7 +7,7 @@ loop-k-init c = filling_start _ _ _ _
 
 pub loop-k-preserved : goal.loop-k-preserved
 loop-k-preserved c =
-    let kept = c.turn-sides.auto.1.1.1.1.1.1.1.0 in
+    let kept = c.turn-sides.auto.vs in
     filling_turn _ _ _ _ _ _ _ _ _ c.loop-k.invariant c.loop-k-test.true _ _ _ _ kept c.turn-sides.ensures
 
 pub returns : goal.returns
