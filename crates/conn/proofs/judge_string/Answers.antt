@@ -1,0 +1,33 @@
+-- `judge_string` meets its promise: 1 and 2 stop it before any work, else it answers as the letters do and clears the
+-- work space.
+use mathlib.Core.Path.{◌∙◌, ap, sym}
+use Prim.Native.Nat.{ℕ}
+use native.Mathlib.Omega.{arith}
+use lib.ListN.{replicate}
+use borrow.Author.Tests.{lt-leb, not-false}
+use Rattle.conn.proofs.Outcomes.{judges_kept, judges_rest}
+use Rattle.theory.proofs.AnswerLaws.{count_few}
+use Rattle.theory.proofs.CallLaws.{stopped_first, stopped_second}
+use Rattle.conn.proofs.judge_string.Goals as goal
+
+pub returns-then-not-count_ok : goal.returns-then-not-count_ok
+returns-then-not-count_ok c =
+    judges_kept (stopped_first (sym c.count_ok.ensures ∙ c.if-not-count_ok.true)
+    c.refuse.ensures)
+
+pub overflow_mul-t : goal.overflow_mul-t
+overflow_mul-t c = omega (arith, count_few _ (sym c.count_ok.ensures ∙ c.if-not-count_ok.false))
+
+pub returns-then-work-t : goal.returns-then-work-t
+returns-then-work-t c =
+    judges_kept (stopped_second (sym c.count_ok.ensures ∙ c.if-not-count_ok.false) (lt-leb _ _ c.if-work-t.true) c.refuse-then-work-t.ensures)
+
+pub judge_letters-a-requires : goal.judge_letters-a-requires
+judge_letters-a-requires c = (
+  (count_few _ (sym c.count_ok.ensures ∙ c.if-not-count_ok.false)).2,
+  omega arith,
+)
+
+pub returns : goal.returns
+returns c = judges_rest (sym c.count_ok.ensures ∙ c.if-not-count_ok.false) c.if-work-t.false c.judge_letters-a.ensures
+    (c.clear.ensures ∙ ap (λ (n : ℕ). replicate n 0) c.judge_letters-a.auto.work)
