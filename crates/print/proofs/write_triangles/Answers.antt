@@ -1,4 +1,3 @@
-use Prim.Native.Nat.{◌-◌}
 use native.Mathlib.Omega.{arith}
 use Rattle.print.proofs.Lengths.{triangle_length}
 use Rattle.print.proofs.Printing.{printing_next, printing_room, printing_start}
