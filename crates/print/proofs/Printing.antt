@@ -9,9 +9,7 @@ use native.Mathlib.Omega.{arith}
 use lib.ListN.{length, length-append}
 use Rattle.print.specs.Printed.{triangle_line, triangle_lines}
 use Rattle.text.proofs.PutLaws.{length_put, put_none, wrote_append}
-use Rattle.text.specs.Line.{after, line}
 use Rattle.text.specs.Put.{Wrote}
-use Rattle.theory.specs.Word.{before}
 
 pub record Printing (before : List ℕ) (at : ℕ) (vs os : List ℕ) (t : ℕ) (out : List ℕ) (k p : ℕ) : Type 0 where
   pub inside : k ≤ t

@@ -27,7 +27,6 @@ use Rattle.text.specs.Put.{Wrote}
 use Rattle.theory.proofs.AnswerLaws.{whole_passed, whole_stops}
 use Rattle.theory.proofs.CallLaws.{filled_done, filled_refused}
 use Rattle.theory.proofs.Closing.{answer_closes, closes_word}
-use Rattle.theory.proofs.Opens.{opens}
 use Rattle.theory.proofs.TestLaws.{and_left, and_right}
 use Rattle.theory.proofs.WordLaws.{length_spell}
 use Rattle.theory.proofs.WordTables.{length_o, length_v}

@@ -15,7 +15,6 @@ use borrow.Author.Tests.{eq-eqb, le-ltb, lt-ltb, ne_eqb}
 use Rattle.record.specs.Head.{accepted_head, head_answer, head_of, refused_head}
 use Rattle.record.specs.Lines.{after4, form_line, gate_line, is_sym_line, letters, tri_line, value_rungs, well_formed_at}
 use Rattle.theory.proofs.AnswerLaws.{each_passed, each_stops, none_broken, whole_passed, whole_stops}
-use Rattle.theory.proofs.Counting.{count}
 use Rattle.theory.specs.Answer.{Rung, count_ok, count_rung, done, first_broken, refused, whole}
 use Rattle.theory.specs.Lists.{least, least_from}
 use Rattle.theory.specs.declared.Answer.{Answer}

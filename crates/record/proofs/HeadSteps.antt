@@ -23,7 +23,6 @@ use Rattle.text.proofs.Parts.{tail_part}
 use Rattle.text.specs.Line.{after, keyed_size, line, line_end, number_line, up_to}
 use Rattle.text.specs.declared.NumberLine.{NumberLine}
 use Rattle.theory.specs.Answer.{done, first_broken, refused}
-use Rattle.theory.specs.Lists.{some}
 use Rattle.theory.specs.declared.Answer.{Answer}
 
 module _ (key l : List ℕ) (a : NumberLine) (e : a ≡ number_line key l) (g : a.good ≡ true) where

@@ -22,7 +22,6 @@ use Rattle.text.specs.Decimal.{decimal}
 use Rattle.text.specs.Put.{Wrote}
 use Rattle.theory.proofs.AnswerLaws.{count_few, whole_passed, whole_stops}
 use Rattle.theory.proofs.CallLaws.{filled_done, filled_refused}
-use Rattle.theory.proofs.Counting.{count}
 use Rattle.theory.specs.Answer.{count_ok, first_broken, refused, room_rung, whole}
 use Rattle.theory.specs.Calls.{Judges, cleared, judge_answer}
 use Rattle.theory.specs.Judge.{letter_rungs, string_answer, string_done}

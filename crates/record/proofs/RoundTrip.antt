@@ -24,7 +24,6 @@ use Rattle.record.specs.declared.Packed.{Packed}
 use Rattle.text.specs.Line.{lacks, line_end}
 use Rattle.theory.proofs.AnswerLaws.{whole_passed}
 use Rattle.theory.proofs.CallLaws.{EachRung, filled_done}
-use Rattle.theory.proofs.Counting.{count}
 use Rattle.theory.proofs.LeastLaws.{least_below}
 use Rattle.theory.proofs.Opens.{opens}
 use Rattle.theory.proofs.TestLaws.{and_left, not_both}

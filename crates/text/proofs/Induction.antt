@@ -6,7 +6,6 @@ use Prim.Native.Nat.{◌<◌, ℕ}
 use lib.WfN.{lt-wf_rel}
 use Rattle.theory.specs.Answer.{done}
 use Rattle.theory.specs.Corner.{left}
-use Rattle.theory.specs.declared.Letter.TheVariants.{C}
 
 pub snoc_induction : {A : Type 0} (P : List A → Type 0) → P [] → ((xs : List A) (x : A) → P xs → P (xs ++ (x ∷ [])))
     → (l : List A) → P l

@@ -19,8 +19,6 @@ use Rattle.text.specs.Line.{after, bad_line, is_keyed, keyed_size, lacks, line_e
 use Rattle.text.specs.declared.Number.{Number}
 use Rattle.text.specs.declared.NumberLine.{NumberLine}
 use Rattle.theory.proofs.TestLaws.{and_left, and_right}
-use Rattle.theory.specs.Lists.{some}
-use Rattle.theory.specs.Word.{size}
 
 -- ---- lines with numbers
 

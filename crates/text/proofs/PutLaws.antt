@@ -15,7 +15,6 @@ use lib.ListN.{drop, length, length-append, length-drop, set, take, take-append-
 use lib.Seq.{drop_at, drop-drop, length-take-le, paste, set_split, take_at, take-length, take-set-le}
 use Rattle.text.specs.Line.{after}
 use Rattle.text.specs.Put.{Wrote, put}
-use Rattle.theory.specs.Word.{before}
 
 module _ (out : List ℕ) (at : ℕ) where
   head_length : (s : List ℕ) → at ≤ length out → length (take at out ++ s) ≡ at + length s

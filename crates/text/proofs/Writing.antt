@@ -8,7 +8,6 @@ use Rattle.text.proofs.DecimalLaws.{decimal_big, decimal_more, decimal_one, deci
 use Rattle.text.proofs.PutLaws.{put_last, put_none}
 use Rattle.text.specs.Decimal.{decimal}
 use Rattle.text.specs.Put.{put}
-use Rattle.theory.specs.Word.{before}
 
 -- the digits of m are left to write, the last of them at i
 pub record Writing (before : List ℕ) (at n : ℕ) (out : List ℕ) (i m : ℕ) : Type 0 where

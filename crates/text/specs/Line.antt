@@ -9,7 +9,6 @@
 use Rattle.std.specs.Prelude.{Bool, ◌&&◌, cond, false, not, true, List, [], ◌∷◌, suc, ℕ, eqb, ltb, drop, length, take}
 use Rattle.text.specs.Decimal.{is_number, value}
 use Rattle.text.specs.declared.NumberLine.{NumberLine}
-use Rattle.theory.specs.Word.{size}
 
 abbrev pub up_to : ℕ → List ℕ → ℕ
 up_to b [] = 0

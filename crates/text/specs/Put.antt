@@ -3,8 +3,6 @@
 --   put out at s               out, with s from the place at on in the place of what stood there
 --   Wrote before at s after r   what a writer promises: put, and the place behind
 use Rattle.std.specs.Prelude.{List, ◌++◌, ◌≡◌, ◌+◌, ℕ, drop, length, take}
-use Rattle.text.specs.Line.{after}
-use Rattle.theory.specs.Word.{before}
 
 unfoldable pub put : List ℕ → ℕ → List ℕ → List ℕ
 put out at s = take at out ++ (s ++ drop (at + length s) out)
