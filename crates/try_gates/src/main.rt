@@ -123,16 +123,14 @@ fn mesh_of(rt: &impl Print, vs: &[u32], os: &[u32], v: u32, n: u32) -> io::Resul
 }
 
 fn mesh(rt: &impl Print, s: &[u8], a: Answer, vs: &[u32], os: &[u32]) -> io::Result<u64> {
-    let t = a.t;
-    let v = a.v;
     rt.write_all(b"mesh ")?;
     rt.write_all(s)?;
     show(rt, a)?;
     rt.write_all(b"\n")?;
-    if 10 < t {
+    if 10 < a.t {
         return Ok(1);
     }
-    let n = 3 * t;
+    let n = 3 * a.t;
     let k = n as usize;
     if vs.len() < k {
         return Ok(1);
@@ -140,7 +138,7 @@ fn mesh(rt: &impl Print, s: &[u8], a: Answer, vs: &[u32], os: &[u32]) -> io::Res
     if os.len() < k {
         return Ok(1);
     }
-    let seen = mesh_of(rt, &vs[..k], &os[..k], v, n)?;
+    let seen = mesh_of(rt, &vs[..k], &os[..k], a.v, n)?;
     Ok(seen.differ)
 }
 
