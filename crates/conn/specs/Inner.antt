@@ -8,7 +8,7 @@ use Rattle.theory.specs.Calls.{filled}
 use Rattle.theory.specs.Judge.{letter_answer}
 use Rattle.theory.specs.Mesh.{mesh_rungs, shape_ok}
 use Rattle.theory.specs.Tables.{table_o, table_v}
-use Rattle.theory.specs.Walk.{corners_of, letters_of, mesh_walk, walk}
+use Rattle.theory.specs.Walk.{corners_of, letters_of, mesh_walk}
 use Rattle.theory.specs.Word.{word_of}
 use Rattle.theory.specs.declared.Answer.{Answer}
 

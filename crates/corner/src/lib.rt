@@ -14,7 +14,7 @@ ghost use Rattle.corner.specs.Counted.{Counted};
 
 use lent::wide;
 
-#[derive(Drop)]
+#[derive(Clone, Copy)]
 pub struct Corner {
     pub at: usize,
 }

@@ -16,7 +16,7 @@ use theory::Answer;
 
 // What a call answers; what it does not answer is 0, and in a refusal all but number and place are 0.
 #[repr(C)]
-#[derive(Drop)]
+#[derive(Clone, Copy)]
 pub struct Reply {
     pub number: u32,
     pub place: u32,

@@ -4,7 +4,7 @@ ghost use Rattle.std.specs.Prelude.{◌≤◌, length};
 ghost use Rattle.judge.specs.Closing.{Apart, Turned, Told};
 
 // The width of the first word, below 2 where the letters do not close, and where the stack of the others stands.
-#[derive(Drop)]
+#[derive(Clone, Copy)]
 pub struct Tops {
     pub top: u32,
     pub at: usize,

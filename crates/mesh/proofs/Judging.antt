@@ -19,7 +19,6 @@ use Rattle.theory.proofs.LeastLaws.{least_below}
 use Rattle.theory.proofs.MeshLaws.{Shape, opposite_low, opposite_twice, surface_of}
 use Rattle.theory.proofs.SwingLaws.{Pairing, Surface}
 use Rattle.theory.specs.Answer.{Rung, done, each, first_broken, refused, whole}
-use Rattle.theory.specs.Corner.{inside}
 use Rattle.theory.specs.Lists.{least}
 use Rattle.theory.specs.Mesh.{apart_at, below_at, glued_at, mesh_rungs, paired_at, reached_at, ringed_at}
 use Rattle.theory.specs.declared.Answer.{Answer}

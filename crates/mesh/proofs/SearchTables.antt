@@ -21,11 +21,9 @@ use Rattle.theory.proofs.LeastLaws.{least_same}
 use Rattle.theory.proofs.ReachLaws.{reached_sound, reached_whole}
 use Rattle.theory.proofs.SwingLaws.{Pairing}
 use Rattle.theory.proofs.TestLaws.{not_is_true, same_test}
-use Rattle.theory.specs.Answer.{whole}
 use Rattle.theory.specs.Corner.{triangle}
 use Rattle.theory.specs.Lists.{least, mem}
 use Rattle.theory.specs.Mesh.{reached, reached_at}
-use Rattle.theory.specs.Walk.{seen}
 use Rattle.theory.specs.Word.{size}
 
 search_eq : {r s : Search} → r.seen ≡ s.seen → r.stack ≡ s.stack → r ≡ s

@@ -14,8 +14,6 @@ use lib.ListN.{get_or, get_or-replicate, length, length-replicate, length-set, r
 use Rattle.mesh.proofs.Touching.{In, Seen, by_touch, count_set, fresh, fresh_keeps, fresh_only, fresh_seen, owed, touch_new, unseen}
 use Rattle.mesh.specs.Search.{Closed, Exact, Search, across, spread, touch}
 use Rattle.theory.proofs.Counting.{bit, count}
-use Rattle.theory.proofs.Facing.{new}
-use Rattle.theory.specs.Answer.{whole}
 use Rattle.theory.specs.Corner.{opposite, triangle}
 use Rattle.theory.specs.Mesh.{Reach, here, over}
 use Rattle.theory.specs.Walk.{seen}

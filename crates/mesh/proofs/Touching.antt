@@ -15,7 +15,6 @@ use borrow.Author.Tests.{eq-eqb, ne_eqb}
 use Rattle.mesh.specs.Search.{Search, touch}
 use Rattle.theory.proofs.Counting.{bit, count}
 use Rattle.theory.proofs.Facing.{new}
-use Rattle.theory.specs.Walk.{seen}
 
 abbrev pub Seen : Search → ℕ → Type 0
 Seen s k = get_or s.seen k 0 ≡ 0 → ⊥

@@ -11,7 +11,7 @@ use conn::{read_string, write_string};
 use record::{Opened, Packed, read_head, read_record, write_record};
 use theory::Answer;
 
-#[derive(Drop)]
+#[derive(Clone, Copy)]
 pub struct Both {
     pub first: Answer,
     pub second: Answer,
@@ -72,7 +72,7 @@ pub fn write_read(
     }
 }
 
-#[derive(Drop)]
+#[derive(Clone, Copy)]
 pub struct Alike {
     pub first: Answer,
     pub second: Answer,
@@ -124,7 +124,7 @@ pub fn same_mesh(
     }
 }
 
-#[derive(Drop)]
+#[derive(Clone, Copy)]
 pub struct Again {
     pub opened: Opened,
     pub packed: Packed,

@@ -13,7 +13,7 @@ use theory::Answer;
 
 // What reading a record answers; in a refusal all but number and place are 0.
 #[repr(C)]
-#[derive(Drop)]
+#[derive(Clone, Copy)]
 pub struct Opened {
     pub number: u32,
     pub place: u32,
@@ -24,7 +24,7 @@ pub struct Opened {
 
 // What writing a record answers; in a refusal all but number and place are 0.
 #[repr(C)]
-#[derive(Drop)]
+#[derive(Clone, Copy)]
 pub struct Packed {
     pub number: u32,
     pub place: u32,
@@ -34,7 +34,7 @@ pub struct Packed {
 }
 
 // Number and place of a refusal, or the gate, and the place and the number of the letters.
-#[derive(Drop)]
+#[derive(Clone, Copy)]
 pub struct Head {
     pub number: u32,
     pub place: u32,

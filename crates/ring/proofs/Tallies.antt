@@ -16,12 +16,10 @@ use lib.Seq.{drop-cons, drop-length, get_or-set_other, get_or-set_same}
 use borrow.Author.Tests.{le-ltb, lt-ltb}
 use Rattle.ring.specs.Tally.{First, Tallied, Zeros, tallied}
 use Rattle.theory.proofs.Counting.{bit, bit_off, count}
-use Rattle.theory.proofs.LetterLaws.{is}
 use Rattle.theory.proofs.Places.{bit_on, count_short}
 use Rattle.theory.proofs.RingTests.{first_at}
 use Rattle.theory.specs.Corner.{vertex}
 use Rattle.theory.specs.Mesh.{first_corner}
-use Rattle.theory.specs.Word.{before}
 
 pub tallied_in : (vs work : List ℕ) (c u : ℕ) → u ≡ vertex vs c → u < length vs
     → set (set work u (get_or work u 0 + 1)) (length vs + u) c ≡ tallied vs c work

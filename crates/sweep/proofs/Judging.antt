@@ -5,7 +5,7 @@
 use mathlib.Core.Bool.{Bool, false, true}
 use mathlib.Core.List.{List}
 use mathlib.Core.Path.{◌∙◌, ◌≡◌, ap, refl, sym}
-use Prim.Native.Nat.{◌*◌, ◌+◌, ◌/◌, ◌≤◌, ℕ}
+use Prim.Native.Nat.{◌+◌, ◌/◌, ℕ}
 use lib.ListN.{length}
 use Rattle.sweep.proofs.Saying.{said_no, said_yes, says_same}
 use Rattle.sweep.proofs.Spheres.{Swept, swept_accepted}

@@ -5,7 +5,7 @@
 --   rest_not_first front_not_last          the open sides differ
 --   join_off join_left join_right          the entries of a table after one join
 --   each_same                              joins in a table that has not changed at their ends
-use mathlib.Core.List.{List, [], ◌++◌, ◌∷◌}
+use mathlib.Core.List.{List, [], ◌∷◌}
 use mathlib.Core.Logic.{◌≢◌}
 use mathlib.Core.Path.{◌∙◌, ◌≡◌, ap}
 use Prim.Native.Nat.{◌*◌, ◌+◌, ◌<◌, ◌≤◌, ℕ}

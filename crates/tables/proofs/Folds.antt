@@ -1,6 +1,6 @@
 -- A letter before the words that stand in the work space: the word that it begins stands there then, and the others as
 -- before. One law for each of C, L and R (`standing_c` ..); E and S are in Pushes and Splices.
-use mathlib.Core.List.{List, [], ◌++◌, ◌∷◌}
+use mathlib.Core.List.{List, [], ◌∷◌}
 use mathlib.Core.Logic.{◌≢◌}
 use mathlib.Core.Path.{◌∙◌, ◌≡◌, ap, refl, subst, sym}
 use Prim.Native.Nat.{◌*◌, ◌+◌, ◌<◌, ◌≤◌, suc, ℕ}

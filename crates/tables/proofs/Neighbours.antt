@@ -2,7 +2,7 @@
 -- table O of the word (`made_table`).
 use mathlib.Core.List.{List, [], ◌∷◌}
 use mathlib.Core.Path.{◌∙◌, ◌≡◌, refl, subst, sym}
-use Prim.Native.Nat.{◌*◌, ◌+◌, ℕ}
+use Prim.Native.Nat.{◌*◌, ℕ}
 use native.Mathlib.Omega.{arith}
 use lib.ListN.{length}
 use lib.Seq.{ext_get_or}

@@ -6,7 +6,7 @@
 --   goes           such a letter
 --   never_stops    in a string that closes no letter stops it
 --   stops_c .. tests_s    the test, letter by letter
-use mathlib.Core.Bool.{Bool, ◌||◌, false, not, true}
+use mathlib.Core.Bool.{Bool, false, not, true}
 use mathlib.Core.List.{List, [], ◌++◌, ◌∷◌, append_assoc}
 use mathlib.Core.Logic.{◌⊎◌, inl, inr}
 use mathlib.Core.Path.{◌∙◌, ◌≡◌, ap, refl, sym}

@@ -4,8 +4,8 @@
 --   stores_splice                                  those of an S
 --   step_letter                                    by the letter that a byte stands for
 use mathlib.Core.List.{List}
-use mathlib.Core.Path.{◌∙◌, ◌≡◌, refl}
-use Prim.Native.Nat.{◌*◌, ◌+◌, ◌-◌, ◌≤◌, ℕ}
+use mathlib.Core.Path.{◌≡◌, refl}
+use Prim.Native.Nat.{◌*◌, ◌+◌, ◌-◌, ℕ}
 use native.Mathlib.Omega.{arith}
 use lib.ListN.{get_or, set}
 use Rattle.tables.specs.Fold.{Fold, fold_c, fold_e, fold_in, fold_l, fold_r, fold_s, fold_step, pushed, spliced}

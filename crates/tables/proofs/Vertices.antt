@@ -2,7 +2,7 @@
 -- table V of its word (`fill_table`).
 use mathlib.Core.List.{List, [], ◌++◌, ◌∷◌, append_assoc, append-nil}
 use mathlib.Core.Path.{◌∙◌, ◌≡◌, ap, refl, subst, sym}
-use Prim.Native.Nat.{◌*◌, ◌+◌, ◌-◌, ◌≤◌, suc, zero, ℕ}
+use Prim.Native.Nat.{◌*◌, ◌+◌, ◌-◌, suc, zero, ℕ}
 use native.Mathlib.Omega.{arith}
 use lib.ListN.{drop, get_or, length, take}
 use Rattle.tables.proofs.Behind.{OnLoop, agreed, behind_c, behind_l, behind_r, behind_left, behind_right, left_resumed, tip_is_e, tip_is_l, tip_is_r, tip_is_s}

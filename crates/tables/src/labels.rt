@@ -9,7 +9,7 @@ use lent::{at, letter_of};
 use theory::Letter;
 
 // The ends of the next triangle, and the next new vertex.
-#[derive(Drop)]
+#[derive(Clone, Copy)]
 pub struct Sides {
     pub left: u32,
     pub right: u32,

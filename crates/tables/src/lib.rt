@@ -19,7 +19,7 @@ use lent::{at, letter_of, put};
 use theory::Letter;
 
 // A word: the ends of its open sides, and where the stack of the words behind it stands.
-#[derive(Drop)]
+#[derive(Clone, Copy)]
 pub struct Ends {
     pub first: u32,
     pub last: u32,

@@ -6,13 +6,13 @@ ghost use Rattle.text.specs.Decimal.{decimal, number, leads_well, digits_after};
 ghost use Rattle.text.specs.Line.{up_to, starts, keyed_size, number_line};
 ghost use Rattle.text.specs.Put.{Wrote};
 
-#[derive(Drop)]
+#[derive(Clone, Copy)]
 pub struct Number {
     pub good: bool,
     pub value: u32,
 }
 
-#[derive(Drop)]
+#[derive(Clone, Copy)]
 pub struct NumberLine {
     pub good: bool,
     pub value: u32,

@@ -4,7 +4,7 @@
 
 // What a call answers. Done is number 0, place 0 and the two counts; a refusal has both counts 0.
 #[repr(C)]
-#[derive(Drop)]
+#[derive(Clone, Copy)]
 pub struct Answer {
     pub number: u32,
     pub place: u32,
@@ -13,7 +13,7 @@ pub struct Answer {
 }
 
 // The letters of the walk.
-#[derive(Drop)]
+#[derive(Clone, Copy)]
 pub enum Letter {
     C,
     L,

@@ -6,7 +6,7 @@
 use crate::maps::{Gates, same_string, search, shown};
 use trial::{alike, number, plus};
 
-#[derive(Drop)]
+#[derive(Clone, Copy)]
 pub struct Seen {
     pub pairs: u64,
     pub equal: u64,

@@ -10,7 +10,7 @@
 // A map is a table with the place of each corner, 999,999,999 where none is known.
 use trial::{at, entries, equal, nines, plus, store};
 
-#[derive(Drop)]
+#[derive(Clone, Copy)]
 pub struct Gates {
     pub v: u32,
     pub n: u32,

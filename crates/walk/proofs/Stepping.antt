@@ -4,11 +4,10 @@
 use mathlib.Core.List.{List}
 use mathlib.Core.Logic.{◌≢◌}
 use mathlib.Core.Path.{◌∙◌, ◌≡◌}
-use Prim.Native.Nat.{◌*◌, ◌+◌, ◌-◌, ◌<◌, ◌≤◌, ℕ}
+use Prim.Native.Nat.{◌+◌, ◌-◌, ◌<◌, ◌≤◌, ℕ}
 use native.Mathlib.Omega.{arith}
 use lib.ListN.{length, length-set, set}
 use Rattle.theory.specs.Corner.{left, opposite, right, triangle, vertex}
-use Rattle.theory.specs.Letter.{letter}
 use Rattle.theory.specs.declared.Letter.TheVariants.{C, E, L, R, S}
 use Rattle.walk.proofs.Rows.{row_c, row_e, row_l, row_r, row_s, row_end}
 use Rattle.walk.proofs.TableLaws.{kept_high, kept_low}

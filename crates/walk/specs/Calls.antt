@@ -9,7 +9,7 @@
 --               of an accepted mesh all of them
 --   letters_in corners_in   the letters and the corners of steps that are kept
 --   Spelt       letters and path begin with those of the t steps kept, and go on as before
-use Rattle.std.specs.Prelude.{true, List, [], ◌++◌, ◌∷◌, ◌≡◌, ◌%◌, ◌*◌, ◌+◌, ◌/◌, ◌<◌, ◌≤◌, ℕ, drop, length, take}
+use Rattle.std.specs.Prelude.{true, List, [], ◌++◌, ◌∷◌, ◌≡◌, ◌%◌, ◌*◌, ◌+◌, ◌/◌, ◌<◌, ◌≤◌, ℕ, drop, length}
 use Rattle.theory.specs.Corner.{left, opposite, right, triangle, vertex}
 use Rattle.theory.specs.Mesh.{Reach, Sphere}
 use Rattle.theory.specs.Walk.{Step, mesh_walk}

@@ -15,7 +15,7 @@ use lent::{at, byte_of, clear_front, put, wide};
 use theory::Letter;
 
 // Where a step leads: its letter, the next corner, the stack's top, and how many steps may follow.
-#[derive(Drop)]
+#[derive(Clone, Copy)]
 pub struct Spot {
     pub letter: Letter,
     pub at: usize,

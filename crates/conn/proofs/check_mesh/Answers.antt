@@ -3,7 +3,7 @@
 use mathlib.Core.Path.{◌∙◌, ap, sym}
 use Prim.Native.Nat.{ℕ}
 use lib.ListN.{replicate}
-use borrow.Author.Tests.{lt-leb, not-false}
+use borrow.Author.Tests.{lt-leb}
 use Rattle.conn.proofs.Outcomes.{checks_kept, checks_rest}
 use Rattle.theory.proofs.CallLaws.{stopped_first, stopped_second}
 use Rattle.conn.proofs.check_mesh.Goals as goal

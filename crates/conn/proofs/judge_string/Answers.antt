@@ -4,7 +4,7 @@ use mathlib.Core.Path.{◌∙◌, ap, sym}
 use Prim.Native.Nat.{ℕ}
 use native.Mathlib.Omega.{arith}
 use lib.ListN.{replicate}
-use borrow.Author.Tests.{lt-leb, not-false}
+use borrow.Author.Tests.{lt-leb}
 use Rattle.conn.proofs.Outcomes.{judges_kept, judges_rest}
 use Rattle.theory.proofs.AnswerLaws.{count_few}
 use Rattle.theory.proofs.CallLaws.{stopped_first, stopped_second}

@@ -1,7 +1,6 @@
 -- `read_string` meets its promise: 1 and 2 stop it before any work, and the rest is its inner part's.
 use mathlib.Core.Path.{◌∙◌, sym}
 use native.Mathlib.Omega.{arith}
-use borrow.Author.Tests.{not-false}
 use Rattle.conn.proofs.Outcomes.{read_room, reads_kept, reads_rest, refusal}
 use Rattle.theory.proofs.AnswerLaws.{count_few}
 use Rattle.theory.proofs.CallLaws.{stopped_first, stopped_second}

@@ -1,6 +1,5 @@
 -- `write_string` meets its promise: 1 and 2 stop it before any work, and the rest is its inner part's.
 use mathlib.Core.Path.{◌∙◌, sym}
-use borrow.Author.Tests.{not-false}
 use Rattle.conn.proofs.Outcomes.{refusal, writes_kept, writes_rest}
 use Rattle.theory.proofs.CallLaws.{stopped_first, stopped_second}
 use Rattle.conn.proofs.write_string.Goals as goal

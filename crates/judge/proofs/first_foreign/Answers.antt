@@ -1,4 +1,3 @@
-use Prim.Native.Nat.{◌-◌}
 use lib.ListN.{get_or, length}
 use borrow.Author.Rules.{rules}
 use Rattle.judge.proofs.Forward.{no_letter, ours}

@@ -1,5 +1,5 @@
 use mathlib.Core.Path.{◌∙◌, sym}
-use Prim.Native.Nat.{◌-◌, ◌/◌}
+use Prim.Native.Nat.{◌/◌}
 use lib.ListN.{length}
 use Rattle.theory.proofs.LeastLaws.{scan_end, scan_stop}
 use Rattle.theory.specs.Mesh.{apart_at}

@@ -1,4 +1,3 @@
-use Prim.Native.Nat.{◌-◌}
 use Rattle.mesh.proofs.Branches.{mark_off}
 use Rattle.mesh.specs.Search.{marked}
 use Rattle.theory.proofs.LeastLaws.{scan_end, scan_stop}

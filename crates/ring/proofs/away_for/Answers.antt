@@ -1,4 +1,3 @@
-use Prim.Native.Nat.{◌-◌}
 use Rattle.ring.proofs.Turns.{swing_end, swing_start, swing_stop, swing_turn}
 use Rattle.ring.proofs.away_for.Goals as goal
 

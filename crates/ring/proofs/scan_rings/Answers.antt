@@ -1,5 +1,4 @@
 use mathlib.Core.Path.{◌∙◌, ap, sym}
-use Prim.Native.Nat.{◌-◌}
 use native.Mathlib.Omega.{arith}
 use Rattle.ring.proofs.Turns.{rings_full}
 use Rattle.theory.proofs.LeastLaws.{least_all, scan_stop}

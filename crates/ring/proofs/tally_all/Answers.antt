@@ -1,4 +1,4 @@
-use mathlib.Core.Path.{◌∙◌, refl}
+use mathlib.Core.Path.{refl}
 use native.Mathlib.Omega.{arith}
 use Rattle.ring.proofs.Tallies.{tally_again, tally_fits, tally_start}
 use Rattle.ring.proofs.tally_all.Goals as goal

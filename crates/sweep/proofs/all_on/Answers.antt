@@ -1,4 +1,3 @@
-use Prim.Native.Nat.{◌-◌}
 use Rattle.sweep.proofs.Marks.{one_off, up_to}
 use Rattle.sweep.specs.Sound.{fails, holds}
 use Rattle.sweep.proofs.all_on.Goals as goal

@@ -1,5 +1,4 @@
 use native.Mathlib.Omega.{arith}
-use Prim.Native.Nat.{◌-◌}
 use Rattle.sweep.proofs.Facing.{one_more, up_to}
 use Rattle.sweep.proofs.Saying.{said_no, said_yes}
 use Rattle.sweep.specs.Sound.{fails, holds}

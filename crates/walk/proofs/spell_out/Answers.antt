@@ -1,5 +1,4 @@
 use mathlib.Core.Path.{refl}
-use Prim.Native.Nat.{◌-◌}
 use Rattle.walk.proofs.Spelling.{end, turn}
 use Rattle.walk.proofs.spell_out.Goals as goal
 

@@ -1,4 +1,3 @@
-use Prim.Native.Nat.{◌-◌}
 use Rattle.tables.proofs.Filling.{filling_end, filling_start, filling_turn}
 use Rattle.tables.proofs.labels.fill.Goals as goal
 
