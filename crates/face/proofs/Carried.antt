@@ -12,7 +12,6 @@ use Rattle.record.specs.Calls.{Opens, Packs}
 use Rattle.record.specs.declared.Opened.{Opened}
 use Rattle.record.specs.declared.Packed.{Packed}
 use Rattle.theory.specs.Calls.{Checks, Reads, Writes}
-use Rattle.theory.specs.Walk.{walk}
 use Rattle.theory.specs.declared.Answer.{Answer}
 
 again : {a : Answer} {r : Reply} → Bare a r → Bare (answer_in r) r

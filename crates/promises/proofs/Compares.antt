@@ -15,7 +15,7 @@ use Rattle.theory.proofs.MeshStrings.{corners_by_walk, mesh_corners, mesh_vertic
 use Rattle.theory.specs.Calls.{Writes, write_answer}
 use Rattle.theory.specs.Corner.{opposite, vertex}
 use Rattle.theory.specs.Renumber.{Renumbering, by_walk}
-use Rattle.theory.specs.Walk.{corners_of, letters_of, mesh_walk, walk}
+use Rattle.theory.specs.Walk.{corners_of, letters_of, mesh_walk}
 use Rattle.theory.specs.declared.Answer.{Answer}
 
 -- a test of two lists for being equal

@@ -30,7 +30,7 @@ use Rattle.theory.specs.Judge.{letter_answer, string_done}
 use Rattle.theory.specs.Mesh.{Accepted, mesh_answer}
 use Rattle.theory.specs.Renumber.{Renumbering, by_walk}
 use Rattle.theory.specs.Tables.{table_o, table_v}
-use Rattle.theory.specs.Walk.{corners_of, letters_of, mesh_walk, walk}
+use Rattle.theory.specs.Walk.{corners_of, letters_of, mesh_walk}
 use Rattle.theory.specs.Word.{Closes, Sound, Word, size, spell, width, word_of}
 use Rattle.theory.specs.declared.Answer.{Answer}
 

@@ -27,7 +27,7 @@ use Rattle.theory.specs.Lists.{mem}
 use Rattle.theory.specs.Mesh.{shape_ok}
 use Rattle.theory.specs.Renumber.{Renumbering, by_walk}
 use Rattle.theory.specs.Tables.{table_o, table_v}
-use Rattle.theory.specs.Walk.{corners_of, letters_of, mesh_walk, walk}
+use Rattle.theory.specs.Walk.{corners_of, letters_of, mesh_walk}
 use Rattle.theory.specs.Word.{word_of}
 use Rattle.theory.specs.declared.Answer.{Answer}
 

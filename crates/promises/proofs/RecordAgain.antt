@@ -24,7 +24,6 @@ use Rattle.record.specs.declared.Head.{Head}
 use Rattle.record.specs.declared.Opened.{Opened}
 use Rattle.record.specs.declared.Packed.{Packed}
 use Rattle.theory.proofs.Passed.{Named, done_passed, passes_whole}
-use Rattle.theory.proofs.Reading.{read}
 use Rattle.theory.proofs.TestLaws.{and_right}
 use Rattle.theory.specs.Answer.{refused}
 use Rattle.theory.specs.Calls.{cleared}

@@ -15,7 +15,6 @@ use Rattle.theory.proofs.CallLaws.{cleared_later, filled_done}
 use Rattle.theory.proofs.CallsDone.{ReadDone, read_done, write_goes}
 use Rattle.theory.proofs.Closing.{closes_word}
 use Rattle.theory.proofs.ReadMesh.{closes_accepted, walk_returns}
-use Rattle.theory.proofs.Reading.{read}
 use Rattle.theory.proofs.WordLaws.{length_spell}
 use Rattle.theory.proofs.WordSteps.{length_tips, tip_corners}
 use Rattle.theory.proofs.WordTables.{length_o, length_v}
@@ -24,7 +23,7 @@ use Rattle.theory.specs.Calls.{Reads, Writes, cleared, filled}
 use Rattle.theory.specs.Judge.{string_done}
 use Rattle.theory.specs.Lists.{mem}
 use Rattle.theory.specs.Tables.{table_o, table_v}
-use Rattle.theory.specs.Walk.{corners_of, letters_of, mesh_walk, walk}
+use Rattle.theory.specs.Walk.{corners_of, letters_of, mesh_walk}
 use Rattle.theory.specs.Word.{size, spell, word_of}
 use Rattle.theory.specs.declared.Answer.{Answer}
 

@@ -40,7 +40,7 @@ write_refusal-requires-then-answer-ne0 c =
 pub returns-then-answer-ne0 : goal.returns-then-answer-ne0
 returns-then-answer-ne0 c =
     unpack_refused _ _ _ _ _ (sym c.is_ready.ensures ∙ c.if-not-is_ready.false)
-    (omega (arith, c.if-bytes-gt2048.false)) c.read_record-answer.ensures
+    (omega arith) c.read_record-answer.ensures
     c.if-answer-ne0.true c.write_refusal-then-answer-ne0.ensures (search rules)
 
 pub write_counts-p-requires : goal.write_counts-p-requires
@@ -62,10 +62,8 @@ write_triangles-requires c =
     let sizes = ready_sizes (length a.vs.now) (length a.os.now) (length a.work.now)
     (length a.out.now) well in
     let few : o.t ≤ 800 = done_few a.bytes.now a.vs.now a.os.now a.work.now a.out.now well
-    (omega (arith, c.if-bytes-gt2048.false)) c.read_record-answer.ensures c.if-answer-ne0.false in
-    let known = c.struct_known-1.given in
-    let line = counts_length o.t o.v o.gate (omega (arith, known)) (omega (arith, known))
-    (omega (arith, known)) in (
+    (omega arith) c.read_record-answer.ensures c.if-answer-ne0.false in
+    let line = counts_length o.t o.v o.gate (omega arith) (omega arith) (omega arith) in (
       omega (arith, few, sizes, c.read_record-answer.auto.vs),
       omega (arith, few, sizes, c.read_record-answer.auto.os),
       omega (arith, few, sizes, line, c.write_counts-p.ensures.place, c.write_counts-p.auto.out),
@@ -74,5 +72,5 @@ write_triangles-requires c =
 pub returns : goal.returns
 returns c =
     unpack_done _ _ _ _ _ (sym c.is_ready.ensures ∙ c.if-not-is_ready.false)
-    (omega (arith, c.if-bytes-gt2048.false)) c.read_record-answer.ensures
+    (omega arith) c.read_record-answer.ensures
     c.if-answer-ne0.false c.write_counts-p.ensures (search rules) c.write_triangles.ensures (search rules)

@@ -86,7 +86,7 @@ returns-then-answer-ne0 c =
     c.refused_head-then-answer-ne0.ensures
     ∙ step_refused _ _ form (not-false _ c.if-not-form.false) _ tri (not-false _ c.if-not-tri.false) _ gate
     (not-false _ c.if-not-gate.false) _
-    c.keyed_size-sym.ensures c.if-sym-eq0.false c.if-sym-rest3.false _ c.judge_values-answer.ensures c.if-answer-ne0.true
+    c.keyed_size-sym.ensures c.if-sym-eq0.false (omega arith) _ c.judge_values-answer.ensures c.if-answer-ne0.true
 
 pub returns : goal.returns
 returns c =
@@ -95,4 +95,4 @@ returns c =
     let gate = c.number_line-gate.ensures in
     step_accepted _ _ form (not-false _ c.if-not-form.false) _ tri (not-false _ c.if-not-tri.false) _ gate
     (not-false _ c.if-not-gate.false) _
-    c.keyed_size-sym.ensures c.if-sym-eq0.false c.if-sym-rest3.false _ c.judge_values-answer.ensures c.if-answer-ne0.false
+    c.keyed_size-sym.ensures c.if-sym-eq0.false (omega arith) _ c.judge_values-answer.ensures c.if-answer-ne0.false

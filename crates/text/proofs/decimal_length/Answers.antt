@@ -1,3 +1,5 @@
+-- A number below 2 ^ 32 has few digits, so that the count fits; a division by ten takes one digit, and below ten there
+-- is one.
 use native.Mathlib.Omega.{arith}
 use Rattle.text.proofs.DecimalLaws.{decimal_more, decimal_one, decimal_some, decimal_word}
 use Rattle.text.proofs.decimal_length.Goals as goal

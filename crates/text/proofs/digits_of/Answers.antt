@@ -1,3 +1,4 @@
+-- A byte that is no digit settles the answer; a digit goes on with `Reading`, and its end is the number.
 use mathlib.Core.Path.{subst, sym}
 use Prim.Native.Nat.{◌*◌, ◌+◌}
 use borrow.Author.Rules.{rules}

@@ -1,3 +1,4 @@
+-- A text that ends before the key does not start with it; the rest Rattle finds.
 use Rattle.text.proofs.LineLaws.{starts_short}
 use Rattle.text.proofs.starts_with.Goals as goal
 

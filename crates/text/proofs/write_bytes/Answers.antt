@@ -1,3 +1,4 @@
+-- One more byte is one more step of `paste`, and the whole of s pasted is s put at the place.
 use mathlib.Core.Path.{◌∙◌, ◌≡◌, ap}
 use native.Mathlib.Numerals.{add-one}
 use native.Mathlib.Omega.{arith}

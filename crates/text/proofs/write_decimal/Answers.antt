@@ -1,3 +1,4 @@
+-- The place of the last digit is above the first; each digit goes on with `Writing`, and the first ends it.
 use native.Mathlib.Omega.{arith}
 use Rattle.text.proofs.DecimalLaws.{decimal_some}
 use Rattle.text.proofs.Writing.{writing_end, writing_next, writing_room, writing_start}
