@@ -4,9 +4,6 @@
 // The work space is all nines before a call: how many nines and zeros it has after it.
 #![tactic(auto)]
 
-ghost use Rattle.std.specs.Prelude.{◌≡◌, IfOk, vec_len};
-
-use std::alloc::{AllocError, Global};
 use std::io;
 use trial::{equal, plus, rise, same, show, space, spell};
 
@@ -364,28 +361,20 @@ fn six(rt: &impl Print) -> io::Result<()> {
     rt.write_all(b"\n")
 }
 
-fn long_text(alloc: Global) -> Result<Vec<u8>, AllocError>
-    ensures { IfOk result (λ v. vec_len v ≡ 65536) }
-{
-    vec![in alloc; 0; 65536]
+fn long_text() -> [u8; 65536] {
+    [0u8; 65536]
 }
 
-fn long_table(alloc: Global) -> Result<Vec<u32>, AllocError>
-    ensures { IfOk result (λ v. vec_len v ≡ 196608) }
-{
-    vec![in alloc; 0; 196608]
+fn long_table() -> [u32; 196608] {
+    [0u32; 196608]
 }
 
-fn long_walk(alloc: Global) -> Result<Vec<u32>, AllocError>
-    ensures { IfOk result (λ v. vec_len v ≡ 65536) }
-{
-    vec![in alloc; 0; 65536]
+fn long_walk() -> [u32; 65536] {
+    [0u32; 65536]
 }
 
-fn long_space(alloc: Global) -> Result<Vec<u32>, AllocError>
-    ensures { IfOk result (λ v. vec_len v ≡ 786432) }
-{
-    vec![in alloc; 0; 786432]
+fn long_space() -> [u32; 786432] {
+    [0u32; 786432]
 }
 
 // The largest mesh, read.
@@ -438,12 +427,12 @@ fn main(rt: HostRuntime) -> io::Result<()> {
     two(&rt)?;
     four(&rt)?;
     six(&rt)?;
-    let mut s = long_text(rt.alloc())?;
-    let mut vs = long_table(rt.alloc())?;
-    let mut os = long_table(rt.alloc())?;
-    let mut out = long_text(rt.alloc())?;
-    let mut walk = long_walk(rt.alloc())?;
-    let mut work = long_space(rt.alloc())?;
+    let mut s = long_text();
+    let mut vs = long_table();
+    let mut os = long_table();
+    let mut out = long_text();
+    let mut walk = long_walk();
+    let mut work = long_space();
     read_long(&rt, &mut s, &mut vs, &mut os, &mut work)?;
     check_long(&rt, &vs, &os, &mut work)?;
     write_long(&rt, &s, &vs, &os, &mut out, &mut walk, &mut work)

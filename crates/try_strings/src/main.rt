@@ -4,9 +4,6 @@
 // nines V and O kept, and how many nines and zeros the work space has.
 #![tactic(auto)]
 
-ghost use Rattle.std.specs.Prelude.{◌≡◌, IfOk, vec_len};
-
-use std::alloc::{AllocError, Global};
 use std::io;
 use trial::{entries, nines, plus, rise, same, show, space, spell};
 
@@ -95,28 +92,20 @@ fn long(
     read_into(rt, s, vs, os, work)
 }
 
-fn longest_text(alloc: Global) -> Result<Vec<u8>, AllocError>
-    ensures { IfOk result (λ v. vec_len v ≡ 65536) }
-{
-    vec![in alloc; 0; 65536]
+fn longest_text() -> [u8; 65536] {
+    [0u8; 65536]
 }
 
-fn longer_text(alloc: Global) -> Result<Vec<u8>, AllocError>
-    ensures { IfOk result (λ v. vec_len v ≡ 65538) }
-{
-    vec![in alloc; 0; 65538]
+fn longer_text() -> [u8; 65538] {
+    [0u8; 65538]
 }
 
-fn long_table(alloc: Global) -> Result<Vec<u32>, AllocError>
-    ensures { IfOk result (λ v. vec_len v ≡ 196620) }
-{
-    vec![in alloc; 0; 196620]
+fn long_table() -> [u32; 196620] {
+    [0u32; 196620]
 }
 
-fn long_space(alloc: Global) -> Result<Vec<u32>, AllocError>
-    ensures { IfOk result (λ v. vec_len v ≡ 786440) }
-{
-    vec![in alloc; 0; 786440]
+fn long_space() -> [u32; 786440] {
+    [0u32; 786440]
 }
 
 // Every string of a few letters.
@@ -149,11 +138,11 @@ fn each(rt: &impl Print) -> io::Result<()> {
 fn main(rt: HostRuntime) -> io::Result<()> {
     all(&rt)?;
     each(&rt)?;
-    let mut longest = longest_text(rt.alloc())?;
-    let mut longer = longer_text(rt.alloc())?;
-    let mut vs = long_table(rt.alloc())?;
-    let mut os = long_table(rt.alloc())?;
-    let mut work = long_space(rt.alloc())?;
+    let mut longest = longest_text();
+    let mut longer = longer_text();
+    let mut vs = long_table();
+    let mut os = long_table();
+    let mut work = long_space();
     long(&rt, &mut longest, 32768, &mut vs, &mut os, &mut work)?;
     long(&rt, &mut longest, 32769, &mut vs, &mut os, &mut work)?;
     long(&rt, &mut longer, 32769, &mut vs, &mut os, &mut work)

@@ -4,18 +4,35 @@
 // 800 triangles; all that is printed comes from print::unpack.
 #![tactic(auto)]
 
+ghost use Rattle.std.specs.Prelude.{◌≤◌, length, IfOk};
+
 use std::io;
 use std::io::Read;
 
 fn main(rt: HostRuntime) -> io::Result<()> {
-    let mut bytes = Vec::new(rt.alloc());
-    rt.reader().take(2049).read_to_end(&mut bytes)?;
+    let mut bytes = [0u8; 2049];
+    let n = read_full(&mut rt.reader(), &mut bytes)?;
     let mut vs = [0u32; 2400];
     let mut os = [0u32; 2400];
     let mut work = [0u32; 9600];
     let mut out = [0u8; 66446];
-    let size = print::unpack(&bytes, &mut vs, &mut os, &mut work, &mut out);
+    let size = print::unpack(&bytes[..n], &mut vs, &mut os, &mut work, &mut out);
     write_first(&rt, &out, size)
+}
+
+// Reads until the buffer is full or the input ends, and answers how many bytes.
+fn read_full(from: &mut impl Read, bytes: &mut [u8]) -> io::Result<usize>
+    ensures { IfOk result (λ n. n ≤ length bytes.new) }
+{
+    let mut n = 0;
+    while n < bytes.len() {
+        let got = from.read(&mut bytes[n..])?;
+        if got == 0 {
+            return Ok(n);
+        }
+        n += got;
+    }
+    Ok(n)
 }
 
 fn write_first(rt: &impl Print, out: &[u8], size: usize) -> io::Result<()> {
