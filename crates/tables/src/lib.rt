@@ -141,6 +141,7 @@ fn step(b: u8, t: usize, k: u32, first: u32, last: u32, top: usize, work: &mut [
 
 // The byte b cannot stand before the words behind it, of which deep counts three for each: words are missing, it is a C
 // before a word with one open side, or it is no letter.
+#[tactic(auto, using(crate::proofs::Stopping::stops_s, crate::proofs::Stopping::tests_s))]
 fn stops(b: u8, first: u32, last: u32, deep: usize) -> bool
     ensures { result ≡ stops (letter b) b first last deep }
 {

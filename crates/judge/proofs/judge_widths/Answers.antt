@@ -1,3 +1,4 @@
+use native.Mathlib.Omega.{arith}
 use mathlib.Core.Path.{◌∙◌, ap, refl, sym}
 use Prim.Native.Nat.{◌+◌, ◌/◌, ℕ}
 use Rattle.judge.proofs.Passes.{begins, ends_done, ends_wide, stops, turns}
@@ -27,6 +28,5 @@ returns-then-top-ne2 c =
 pub returns : goal.returns
 returns c =
     let inv = c.loop-i.invariant in
-    let two = sym c.top.ensures ∙ c.if-top-ne2.false in
     let counts = ap (λ (t : ℕ). done t (t / 2 + 2)) inv.0 in
-    c.accept.ensures ∙ counts ∙ ends_done _ _ _ _ _ inv.1 c.loop-i-test.false two
+    c.accept.ensures ∙ counts ∙ ends_done _ _ _ _ _ inv.1 c.loop-i-test.false (omega (arith, c.top.ensures))

@@ -1,3 +1,4 @@
+use native.Mathlib.Omega.{arith}
 use mathlib.Core.Path.{◌∙◌, refl, sym}
 use Rattle.tables.proofs.Folded.{folded_done, folded_many, folded_wide, stopped}
 use Rattle.tables.proofs.Folding.{begins, folding_stop, folding_turn}
@@ -35,5 +36,5 @@ returns-then-first-last c =
 pub returns : goal.returns
 returns c =
     let inv = c.loop-i.invariant in
-    folded_done _ _ _ _ _ _ _ c.requires inv.2 c.loop-i-test.false _ inv.1 c.if-end-top-ne3.false
+    folded_done _ _ _ _ _ _ _ c.requires inv.2 c.loop-i-test.false _ inv.1 (omega arith)
     c.if-first-last.false _ c.join.ensures

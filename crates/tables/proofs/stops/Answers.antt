@@ -1,15 +1,11 @@
 -- `stops` meets its contract, letter by letter.
 use mathlib.Core.Path.{◌∙◌, sym}
-use Rattle.tables.proofs.Stopping.{stops_c, stops_s, tests_c, tests_e, tests_l, tests_r, tests_s}
+use Rattle.tables.proofs.Stopping.{stops_c, tests_c, tests_e, tests_l, tests_r}
 use Rattle.tables.proofs.stops.Goals as goal
 
 pub returns-then-deep-lt3 : goal.returns-then-deep-lt3
 returns-then-deep-lt3 c =
     stops_c _ _ _ _ (sym c.in-C.is ∙ c.letter_of.ensures) c.if-deep-lt3.true
-
-pub returns-then-deep-lt6 : goal.returns-then-deep-lt6
-returns-then-deep-lt6 c =
-    stops_s _ _ _ _ (sym c.in-S.is ∙ c.letter_of.ensures) c.if-deep-lt6.true
 
 pub returns-else-deep-lt3 : goal.returns-else-deep-lt3
 returns-else-deep-lt3 c =
@@ -23,7 +19,3 @@ returns-in-E c = tests_e _ _ _ _ (sym c.in-E.is ∙ c.letter_of.ensures)
 
 pub returns-in-R : goal.returns-in-R
 returns-in-R c = tests_r _ _ _ _ (sym c.in-R.is ∙ c.letter_of.ensures)
-
-pub returns-else-deep-lt6 : goal.returns-else-deep-lt6
-returns-else-deep-lt6 c =
-    tests_s _ _ _ _ (sym c.in-S.is ∙ c.letter_of.ensures) c.if-deep-lt6.false

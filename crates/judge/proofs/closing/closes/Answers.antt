@@ -13,7 +13,7 @@ pub loop-i-preserved : goal.loop-i-preserved
 loop-i-preserved c =
     let inv = c.loop-i.invariant in
     let same = c.turn-next.auto.work in
-    folds_turn _ _ _ _ _ _ inv c.loop-i-test.true _ _ same c.turn-next.ensures c.if-next-lt2.false
+    folds_turn _ _ _ _ _ _ inv c.loop-i-test.true _ _ same c.turn-next.ensures (omega arith)
 
 pub returns : goal.returns
 returns c =
