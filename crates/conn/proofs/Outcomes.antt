@@ -1,6 +1,6 @@
 -- A call's promise, from its answer and work space (`Outcome`) and what it left in its outputs.
 --
---   judges checks                calls without outputs
+--   judges checks                calls without outputs; short_answer, short_space: check 2
 --   reads_kept reads_rest        read_string: a refusal before any work, and what its inner part answers
 --   writes_kept writes_rest      the same for write_string
 --   read_room write_room         what the checks 1 and 2 leave for the inner parts
@@ -10,20 +10,20 @@ use mathlib.Core.Bool.{Bool, ◌&&◌, true}
 use mathlib.Core.List.{List, ◌++◌}
 use mathlib.Core.Logic.{◌≢◌}
 use mathlib.Core.Path.{◌∙◌, ◌≡◌, ap, sym}
-use Prim.Native.Nat.{◌*◌, ◌/◌, ◌≤◌, suc, ℕ}
+use Prim.Native.Nat.{◌*◌, ◌/◌, ◌<◌, ◌≤◌, suc, ℕ}
 use native.Mathlib.Omega.{arith}
 use lib.Dec.{leb}
 use lib.ListN.{drop, length, replicate}
-use borrow.Author.Tests.{le-leb, leb-true}
+use borrow.Author.Tests.{le-leb, leb-true, lt-leb}
 use Rattle.conn.specs.Inner.{ReadLetters, ReadRoom, WriteLetters, WriteRoom}
 use Rattle.sweep.specs.Judged.{Judges as SweepJudges}
 use Rattle.tables.specs.Built.{Built}
 use Rattle.theory.proofs.AnswerLaws.{count_few}
 use Rattle.theory.proofs.Closing.{answer_closes, closes_answer}
-use Rattle.theory.proofs.CallLaws.{Later, Outcome, cleared_later, filled_done, filled_refused, later_mesh, later_string, sized_rest, went_on}
+use Rattle.theory.proofs.CallLaws.{Later, Outcome, cleared_later, cleared_second, filled_done, filled_refused, later_mesh, later_string, sized_rest, sized_second, went_on}
 use Rattle.theory.proofs.TestLaws.{and_left, and_right}
 use Rattle.theory.specs.Answer.{count_ok, done, first_broken, refused}
-use Rattle.theory.specs.Calls.{Checks, Judges, Reads, Writes, check_answer, judge_answer, read_answer, write_answer}
+use Rattle.theory.specs.Calls.{Checks, Judges, Reads, Writes, check_answer, cleared, judge_answer, read_answer, sizes, write_answer}
 use Rattle.theory.specs.Judge.{letter_answer, letter_rungs, string_answer, string_done}
 use Rattle.theory.specs.Mesh.{mesh_answer, mesh_rungs, shape_ok}
 use Rattle.theory.specs.Tables.{table_o, table_v}
@@ -58,6 +58,14 @@ module _ {s work work' : List ℕ} {a : Answer} where
       → Judges s work a work'
   unfolding letter_answer
   judges_rest ok room e z = judges_kept (went_on ok (le-leb _ _ room) e (rw e (later_string s)) z)
+
+-- check 2 of judge_string, k the length of the work space: the answer, and that it leaves the work space alone
+pub short_answer : (s : List ℕ) (k : ℕ) → count_ok (length s) ≡ true → k < 12 * length s → judge_answer s k ≡ refused 2 0
+unfolding judge_answer string_answer
+short_answer s k ok short = sized_second _ _ (letter_rungs s) (string_done s) ok (lt-leb _ _ short)
+
+pub short_space : (work : List ℕ) → cleared sizes (refused 2 0) work ≡ work
+short_space work = cleared_second work
 
 -- ---- read_string
 

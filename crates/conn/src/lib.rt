@@ -35,6 +35,7 @@ fn enough(a: usize, n: usize, b: usize, m: usize, w: usize, k: usize) -> bool
 }
 
 // Judges a string. Numbers 1 to 7, else done with its counts.
+#[tactic(auto, using(crate::proofs::Outcomes::short_answer, crate::proofs::Outcomes::short_space))]
 pub fn judge_string(letters: &[u8], work: &mut [u32]) -> Answer
     ensures { Judges letters.now work.old result work.new }
 {

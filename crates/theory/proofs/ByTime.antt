@@ -140,4 +140,5 @@ module _ (lab : ℕ → ℕ) (g : ℕ) (sp : ℕ → Letter) (co : ℕ → ℕ) 
   mark_in pre h y (inl q) = rw (q, eqb_same (lab (next g)))
   mark_in pre h y (inr (inl q)) = or_right (eqb y (lab (next g))) _ (rw (q, eqb_same (lab (previous g))))
   mark_in pre h y (inr (inr (j, p, u, w))) =
-      or_right (eqb y (lab (next g))) _ (or_right (eqb y (lab (previous g))) _ (let m = mark_tip pre h j p u in rw (← w) at m))
+      let m = mark_tip pre h j p u in
+      or_right (eqb y (lab (next g))) _ (or_right (eqb y (lab (previous g))) _ (rw (← w) at m))

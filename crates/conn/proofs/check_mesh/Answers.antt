@@ -15,8 +15,11 @@ returns-then-not-shape_ok c =
 
 pub returns-then-work-vs : goal.returns-then-work-vs
 returns-then-work-vs c =
-    checks_kept (stopped_second (sym c.shape_ok.ensures ∙ c.if-not-shape_ok.false) (lt-leb _ _ c.if-work-vs.true) c.refuse-then-work-vs.ensures)
+    let ok = sym c.shape_ok.ensures ∙ c.if-not-shape_ok.false in
+    checks_kept (stopped_second ok (lt-leb _ _ c.if-work-vs.true) c.refuse-then-work-vs.ensures)
 
 pub returns : goal.returns
-returns c = checks_rest (sym c.shape_ok.ensures ∙ c.if-not-shape_ok.false) c.if-work-vs.false c.judge-a.ensures.answer
+returns c =
+    let ok = sym c.shape_ok.ensures ∙ c.if-not-shape_ok.false in
+    checks_rest ok c.if-work-vs.false c.judge-a.ensures.answer
     (c.clear.ensures ∙ ap (λ (n : ℕ). replicate n 0) c.judge-a.auto.work)

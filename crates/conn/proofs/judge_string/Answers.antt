@@ -4,10 +4,9 @@ use mathlib.Core.Path.{◌∙◌, ap, sym}
 use Prim.Native.Nat.{ℕ}
 use native.Mathlib.Omega.{arith}
 use lib.ListN.{replicate}
-use borrow.Author.Tests.{lt-leb}
 use Rattle.conn.proofs.Outcomes.{judges_kept, judges_rest}
 use Rattle.theory.proofs.AnswerLaws.{count_few}
-use Rattle.theory.proofs.CallLaws.{stopped_first, stopped_second}
+use Rattle.theory.proofs.CallLaws.{stopped_first}
 use Rattle.conn.proofs.judge_string.Goals as goal
 
 pub returns-then-not-count_ok : goal.returns-then-not-count_ok
@@ -18,10 +17,6 @@ returns-then-not-count_ok c =
 pub overflow_mul-t : goal.overflow_mul-t
 overflow_mul-t c = omega (arith, count_few _ (sym c.count_ok.ensures ∙ c.if-not-count_ok.false))
 
-pub returns-then-work-t : goal.returns-then-work-t
-returns-then-work-t c =
-    judges_kept (stopped_second (sym c.count_ok.ensures ∙ c.if-not-count_ok.false) (lt-leb _ _ c.if-work-t.true) c.refuse-then-work-t.ensures)
-
 pub judge_letters-a-requires : goal.judge_letters-a-requires
 judge_letters-a-requires c = (
   (count_few _ (sym c.count_ok.ensures ∙ c.if-not-count_ok.false)).2,
@@ -29,5 +24,7 @@ judge_letters-a-requires c = (
 )
 
 pub returns : goal.returns
-returns c = judges_rest (sym c.count_ok.ensures ∙ c.if-not-count_ok.false) c.if-work-t.false c.judge_letters-a.ensures
+returns c =
+    let ok = sym c.count_ok.ensures ∙ c.if-not-count_ok.false in
+    judges_rest ok c.if-work-t.false c.judge_letters-a.ensures
     (c.clear.ensures ∙ ap (λ (n : ℕ). replicate n 0) c.judge_letters-a.auto.work)

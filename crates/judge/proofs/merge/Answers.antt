@@ -6,7 +6,8 @@ use Rattle.judge.proofs.Stores.{merge_none, merge_set}
 use Rattle.judge.proofs.merge.Goals as goal
 
 pub returns-then-work-p-lt2 : goal.returns-then-work-p-lt2
-returns-then-work-p-lt2 c = record { within = search rules; stack = merge_none _ _ c.if-work-p-lt2.true c.requires.within }
+returns-then-work-p-lt2 c =
+    record { within = search rules; stack = merge_none _ _ c.if-work-p-lt2.true c.requires.within }
 
 pub returns : goal.returns
 returns c =

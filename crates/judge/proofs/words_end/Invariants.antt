@@ -7,7 +7,10 @@ use Rattle.theory.specs.Judge.{words_end}
 use Rattle.judge.proofs.words_end.Given as goal
 
 abbrev pub invariant-loop-i : goal.invariant-loop-i
-invariant-loop-i l = (l.i ≤ length l.s) × (l.need ≤ l.i + 1) × (words_end l.s 1 ≡ l.i + words_end (drop l.i l.s) l.need)
+invariant-loop-i l =
+    (l.i ≤ length l.s)
+    × (l.need ≤ l.i + 1)
+    × (words_end l.s 1 ≡ l.i + words_end (drop l.i l.s) l.need)
 
 abbrev pub decreases-loop-i : goal.decreases-loop-i
 decreases-loop-i l = length l.s - l.i

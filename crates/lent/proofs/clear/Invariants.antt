@@ -6,7 +6,10 @@ use lib.ListN.{drop, length, replicate}
 use Rattle.lent.proofs.clear.Given as goal
 
 abbrev pub invariant-loop-i : goal.invariant-loop-i
-invariant-loop-i l = (l.i ≤ length l.initial.work) × (length l.work ≡ length l.initial.work) × (l.work ≡ replicate l.i 0 ++ drop l.i l.initial.work)
+invariant-loop-i l =
+    (l.i ≤ length l.initial.work)
+    × (length l.work ≡ length l.initial.work)
+    × (l.work ≡ replicate l.i 0 ++ drop l.i l.initial.work)
 
 abbrev pub decreases-loop-i : goal.decreases-loop-i
 decreases-loop-i l = length l.initial.work - l.i

@@ -9,7 +9,8 @@ use Rattle.theory.proofs.MeshLaws.{shape_of}
 use Rattle.sweep.proofs.walks.Goals as goal
 
 pub returns-then-vs-wide : goal.returns-then-vs-wide
-returns-then-vs-wide c = refused_walk (λ a. let b = accepted_gate a in omega (arith, c.if-vs-wide.true, c.wide.ensures))
+returns-then-vs-wide c =
+    refused_walk (λ a. let b = accepted_gate a in omega (arith, c.if-vs-wide.true, c.wide.ensures))
 
 pub returns-then-t-wide : goal.returns-then-t-wide
 returns-then-t-wide c = refused_walk (λ a. c.if-t-wide.true (omega (arith, a.sphere.euler, c.wide-2.ensures)))

@@ -27,7 +27,8 @@ returns-then-work-r-eq0-2 c =
 pub returns-then-p-work : goal.returns-then-p-work
 returns-then-p-work c =
     did_e c.requires c.wide.ensures c.left_of-l.ensures.0
-    c.right_of-r.ensures.0 (omega arith) c.if-work-l-eq0.false c.if-work-r-eq0-2.false c.wide-then-p-work.ensures c.if-p-work.true
+    c.right_of-r.ensures.0 (omega arith) c.if-work-l-eq0.false c.if-work-r-eq0-2.false c.wide-then-p-work.ensures
+    c.if-p-work.true
 
 pub returns : goal.returns
 returns c =
