@@ -26,5 +26,5 @@ judge_letters-a-requires c = (
 pub returns : goal.returns
 returns c =
     let ok = sym c.count_ok.ensures ∙ c.if-not-count_ok.false in
-    judges_rest ok c.if-work-t.false c.judge_letters-a.ensures
+    judges_rest ok (omega arith) c.judge_letters-a.ensures
     (c.clear.ensures ∙ ap (λ (n : ℕ). replicate n 0) c.judge_letters-a.auto.work)
