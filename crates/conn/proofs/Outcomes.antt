@@ -60,7 +60,8 @@ module _ {s work work' : List ℕ} {a : Answer} where
   judges_rest ok room e z = judges_kept (went_on ok (le-leb _ _ room) e (rw e (later_string s)) z)
 
 -- check 2 of judge_string, k the length of the work space: the answer, and that it leaves the work space alone
-pub short_answer : (s : List ℕ) (k : ℕ) → count_ok (length s) ≡ true → k < 12 * length s → judge_answer s k ≡ refused 2 0
+pub short_answer :
+    (s : List ℕ) (k : ℕ) → count_ok (length s) ≡ true → k < 12 * length s → judge_answer s k ≡ refused 2 0
 unfolding judge_answer string_answer
 short_answer s k ok short = sized_second _ _ (letter_rungs s) (string_done s) ok (lt-leb _ _ short)
 

@@ -3,8 +3,8 @@
 //     last_check_mesh last_write_string last_read_string    of the connectivity part, with its promises
 //     last_read_record last_write_record                    of the record part, with its promises
 //
-// A slice is lent as pointer and length. Every call answers a Reply by value, and face/specs/Reply says how it
-// carries the answer of the call behind it.
+// The crate face_c exports them; there a slice is lent as pointer and length. Every call answers a Reply by value, and
+// face/specs/Reply says how it carries the answer of the call behind it.
 #![tactic(auto)]
 
 ghost use Rattle.theory.specs.Calls.{Reads, Checks, Writes};
@@ -68,22 +68,14 @@ fn with_length(a: Packed) -> Reply
     }
 }
 
-#[unsafe(no_mangle)]
-pub extern "C" fn last_check_mesh(
-    vs: &[u32],
-    os: &[u32],
-    v: u32,
-    gate: u32,
-    work: &mut [u32],
-) -> Reply
+pub fn last_check_mesh(vs: &[u32], os: &[u32], v: u32, gate: u32, work: &mut [u32]) -> Reply
     ensures { Bare (answer_in result) result × Checks vs.now os.now v gate work.old (answer_in result) work.new }
 {
     let a = conn::check_mesh(vs, os, v, gate, work);
     bare(a)
 }
 
-#[unsafe(no_mangle)]
-pub extern "C" fn last_write_string(
+pub fn last_write_string(
     vs: &[u32],
     os: &[u32],
     v: u32,
@@ -98,39 +90,21 @@ pub extern "C" fn last_write_string(
     bare(a)
 }
 
-#[unsafe(no_mangle)]
-pub extern "C" fn last_read_string(
-    letters: &[u8],
-    vs: &mut [u32],
-    os: &mut [u32],
-    work: &mut [u32],
-) -> Reply
+pub fn last_read_string(letters: &[u8], vs: &mut [u32], os: &mut [u32], work: &mut [u32]) -> Reply
     ensures { Bare (answer_in result) result × Reads letters.now vs.old os.old work.old (answer_in result) vs.new os.new work.new }
 {
     let a = conn::read_string(letters, vs, os, work);
     bare(a)
 }
 
-#[unsafe(no_mangle)]
-pub extern "C" fn last_read_record(
-    bytes: &[u8],
-    vs: &mut [u32],
-    os: &mut [u32],
-    work: &mut [u32],
-) -> Reply
+pub fn last_read_record(bytes: &[u8], vs: &mut [u32], os: &mut [u32], work: &mut [u32]) -> Reply
     ensures { WithGate (opened_in result) result × Opens bytes.now vs.old os.old work.old (opened_in result) vs.new os.new work.new }
 {
     let a = record::read_record(bytes, vs, os, work);
     with_gate(a)
 }
 
-#[unsafe(no_mangle)]
-pub extern "C" fn last_write_record(
-    letters: &[u8],
-    gate: u32,
-    text: &mut [u8],
-    work: &mut [u32],
-) -> Reply
+pub fn last_write_record(letters: &[u8], gate: u32, text: &mut [u8], work: &mut [u32]) -> Reply
     ensures { WithLength (packed_in result) result × Packs letters.now gate text.old work.old (packed_in result) text.new work.new }
 {
     let a = record::write_record(letters, gate, text, work);
