@@ -418,6 +418,18 @@ fn write_long(
     space(rt, work)
 }
 
+// The largest mesh. The work space is lent: made here too, with what makes it, it would want the whole stack.
+fn largest(rt: &impl Print, work: &mut [u32]) -> io::Result<()> {
+    let mut s = long_text();
+    let mut vs = long_table();
+    let mut os = long_table();
+    let mut out = long_text();
+    let mut walk = long_walk();
+    read_long(rt, &mut s, &mut vs, &mut os, work)?;
+    check_long(rt, &vs, &os, work)?;
+    write_long(rt, &s, &vs, &os, &mut out, &mut walk, work)
+}
+
 fn main(rt: HostRuntime) -> io::Result<()> {
     sizes(&rt)?;
     counts(&rt)?;
@@ -427,13 +439,6 @@ fn main(rt: HostRuntime) -> io::Result<()> {
     two(&rt)?;
     four(&rt)?;
     six(&rt)?;
-    let mut s = long_text();
-    let mut vs = long_table();
-    let mut os = long_table();
-    let mut out = long_text();
-    let mut walk = long_walk();
     let mut work = long_space();
-    read_long(&rt, &mut s, &mut vs, &mut os, &mut work)?;
-    check_long(&rt, &vs, &os, &mut work)?;
-    write_long(&rt, &s, &vs, &os, &mut out, &mut walk, &mut work)
+    largest(&rt, &mut work)
 }

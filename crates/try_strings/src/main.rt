@@ -135,15 +135,21 @@ fn each(rt: &impl Print) -> io::Result<()> {
     read_short(rt, b"CCRE")
 }
 
-fn main(rt: HostRuntime) -> io::Result<()> {
-    all(&rt)?;
-    each(&rt)?;
-    let mut longest = longest_text();
+// Strings of the most letters and of two more. The work space is lent: made here too, with what makes it, it would want
+// the whole stack.
+fn longest(rt: &impl Print, work: &mut [u32]) -> io::Result<()> {
+    let mut most = longest_text();
     let mut longer = longer_text();
     let mut vs = long_table();
     let mut os = long_table();
+    long(rt, &mut most, 32768, &mut vs, &mut os, work)?;
+    long(rt, &mut most, 32769, &mut vs, &mut os, work)?;
+    long(rt, &mut longer, 32769, &mut vs, &mut os, work)
+}
+
+fn main(rt: HostRuntime) -> io::Result<()> {
+    all(&rt)?;
+    each(&rt)?;
     let mut work = long_space();
-    long(&rt, &mut longest, 32768, &mut vs, &mut os, &mut work)?;
-    long(&rt, &mut longest, 32769, &mut vs, &mut os, &mut work)?;
-    long(&rt, &mut longer, 32769, &mut vs, &mut os, &mut work)
+    longest(&rt, &mut work)
 }
