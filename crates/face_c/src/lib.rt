@@ -1,5 +1,5 @@
-// The calls for programs in C and Rust, exported under the names of include/last.h: each is the call of that name in face,
-// with its promise.
+// The calls for programs in C and Rust, exported under the names of include/last.h: each is the call of that name in
+// face, with its promise.
 #![tactic(auto)]
 
 ghost use Rattle.theory.specs.Calls.{Reads, Checks, Writes};
@@ -31,7 +31,8 @@ pub extern "C" fn last_write_string(
     walk: &mut [u32],
     work: &mut [u32],
 ) -> Reply
-    ensures { Bare (answer_in result) result × Writes vs.now os.now v gate letters.old walk.old work.old (answer_in result) letters.new walk.new work.new }
+    ensures { Bare (answer_in result) result
+        × Writes vs.now os.now v gate letters.old walk.old work.old (answer_in result) letters.new walk.new work.new }
 {
     face::last_write_string(vs, os, v, gate, letters, walk, work)
 }
@@ -43,7 +44,8 @@ pub extern "C" fn last_read_string(
     os: &mut [u32],
     work: &mut [u32],
 ) -> Reply
-    ensures { Bare (answer_in result) result × Reads letters.now vs.old os.old work.old (answer_in result) vs.new os.new work.new }
+    ensures { Bare (answer_in result) result
+        × Reads letters.now vs.old os.old work.old (answer_in result) vs.new os.new work.new }
 {
     face::last_read_string(letters, vs, os, work)
 }
@@ -55,7 +57,8 @@ pub extern "C" fn last_read_record(
     os: &mut [u32],
     work: &mut [u32],
 ) -> Reply
-    ensures { WithGate (opened_in result) result × Opens bytes.now vs.old os.old work.old (opened_in result) vs.new os.new work.new }
+    ensures { WithGate (opened_in result) result
+        × Opens bytes.now vs.old os.old work.old (opened_in result) vs.new os.new work.new }
 {
     face::last_read_record(bytes, vs, os, work)
 }
@@ -67,7 +70,8 @@ pub extern "C" fn last_write_record(
     text: &mut [u8],
     work: &mut [u32],
 ) -> Reply
-    ensures { WithLength (packed_in result) result × Packs letters.now gate text.old work.old (packed_in result) text.new work.new }
+    ensures { WithLength (packed_in result) result
+        × Packs letters.now gate text.old work.old (packed_in result) text.new work.new }
 {
     face::last_write_record(letters, gate, text, work)
 }
