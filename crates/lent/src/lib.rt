@@ -1,31 +1,32 @@
-// Leaves of the connectivity part: one number of a lent table, a lent table as a whole, a stack that grows down in one,
-// the five letters, and the two kinds of answer. Each says exactly what it reads or stores.
+// Leaves of the connectivity part: one number of a lent table, a lent table as a whole, a stack that grows down in
+// one, two tables of a mesh's shape, the letter of a byte, and the test of a count. Each says exactly what it reads or
+// stores.
 #![tactic(auto)]
 
-ghost use Rattle.std.specs.Prelude.{◌≡◌, ◌++◌, ℕ, ◌-◌, ◌<◌, ◌≤◌, length, drop, get_or, set, replicate};
-ghost use Rattle.theory.specs.Lists.{head, tail};
-ghost use Rattle.theory.specs.Answer.{done, refused, count_ok};
-ghost use Rattle.theory.specs.Letter.{letter, byte};
+ghost use Rattle.std.specs.Prelude.{◌≡◌, ◌++◌, ◌-◌, ◌<◌, ◌≤◌, length, drop, get_or, set, replicate};
+ghost use Rattle.theory.specs.Answer.{count_ok};
+ghost use Rattle.theory.specs.Letter.{letter};
 
-use theory::{Answer, Letter};
+mod shape;
 
-pub fn wide(x: u32) -> usize
-    ensures { result ≡ x }
+pub use shape::Tables;
+use theory::Letter;
+
+// The entry at i, the number none beyond the end.
+pub fn entry_or(tab: &[u32], i: usize, none: u32) -> u32
+    ensures { result ≡ get_or tab.now i none }
 {
-    x as usize
+    tab.get(i).copied().unwrap_or(none)
 }
 
 // The entry at i, 0 beyond the end.
 pub fn at(tab: &[u32], i: usize) -> u32
     ensures { result ≡ get_or tab.now i 0 }
 {
-    if i < tab.len() {
-        return tab[i];
-    }
-    0
+    entry_or(tab, i, 0)
 }
 
-// A store; beyond the end it stores nothing.
+// A store; beyond the end it stores nothing. By index, since a proof knows no element after a store through `get_mut`.
 pub fn put(tab: &mut [u32], i: usize, x: u32)
     ensures { tab.new ≡ set tab.old i x }
 {
@@ -38,11 +39,7 @@ pub fn put(tab: &mut [u32], i: usize, x: u32)
 pub fn clear(work: &mut [u32])
     ensures { work.new ≡ replicate (length work.old) 0 }
 {
-    let mut i = 0;
-    while i < work.len() {
-        work[i] = 0;
-        i += 1;
-    }
+    work.fill(0);
 }
 
 // The first n numbers zero, the others as they come.
@@ -50,7 +47,7 @@ pub fn clear_front(work: &mut [u32], n: usize)
     requires { n ≤ length work.old }
     ensures { work.new ≡ replicate n 0 ++ drop n work.old }
 {
-    clear(&mut work[..n]);
+    work[..n].fill(0);
 }
 
 // The stack that is work from p on: one number more.
@@ -62,88 +59,17 @@ pub fn push(work: &mut [u32], p: usize, x: u32) -> usize
     p - 1
 }
 
-// Its top, 0 where it is empty.
-pub fn top(work: &[u32], p: usize) -> u32
-    ensures { result ≡ head (drop p work.now) }
-{
-    if p < work.len() {
-        return work[p];
-    }
-    0
-}
-
-// Where it stands with its top taken off.
-pub fn under(work: &[u32], p: usize) -> usize
-    requires { p ≤ length work.now }
-    ensures { (p ≤ result) × (result ≤ length work.now) × (drop result work.now ≡ tail (drop p work.now)) }
-{
-    if p < work.len() {
-        return p + 1;
-    }
-    p
-}
-
+// A byte that is no letter is read as S; where that matters, `Letter::try_from` tells.
 pub fn letter_of(b: u8) -> Letter
     ensures { result ≡ letter b }
 {
-    if b == 67 {
-        return Letter::C;
-    }
-    if b == 76 {
-        return Letter::L;
-    }
-    if b == 69 {
-        return Letter::E;
-    }
-    if b == 82 {
-        return Letter::R;
-    }
-    Letter::S
-}
-
-pub fn byte_of(a: Letter) -> u8
-    ensures { result ≡ byte a }
-{
-    match a {
-        Letter::C => 67,
-        Letter::L => 76,
-        Letter::E => 69,
-        Letter::R => 82,
-        Letter::S => 83,
-    }
+    Letter::try_from(b).unwrap_or(Letter::S)
 }
 
 // t even, 2 to 65,536.
+#[tactic(auto, unfolding(theory::specs::Answer::count_ok))]
 pub fn count_ok(t: usize) -> bool
     ensures { result ≡ count_ok t }
 {
-    if t % 2 != 0 {
-        return false;
-    }
-    if t < 2 {
-        return false;
-    }
-    t <= 65536
-}
-
-pub fn refuse(number: u32, place: u32) -> Answer
-    ensures { result ≡ refused number place }
-{
-    Answer {
-        number,
-        place,
-        t: 0,
-        v: 0,
-    }
-}
-
-pub fn accept(t: u32, v: u32) -> Answer
-    ensures { result ≡ done t v }
-{
-    Answer {
-        number: 0,
-        place: 0,
-        t,
-        v,
-    }
+    t % 2 == 0 && 2 <= t && t <= 65536
 }

@@ -14,7 +14,7 @@ use borrow.Author.Tests.{eqb-true, le-ltb, leb-true, lt-ltb}
 use Rattle.theory.proofs.TestLaws.{and_left, and_right}
 use Rattle.theory.specs.Answer.{Rung, count_ok, each, first_broken, refused, whole}
 use Rattle.theory.specs.Lists.{least}
-use Rattle.theory.specs.declared.Answer.{Answer}
+use Rattle.theory.specs.Answer.{Answer}
 
 module _ (r : Rung) (rs : List Rung) (a : Answer) where
   pub rung_stops : r.place < r.limit → first_broken (r ∷ rs) a ≡ refused r.number r.place

@@ -17,7 +17,8 @@ use lib.Dec.{eqb}
 use lib.ListN.{length}
 use borrow.Author.Tests.{eqb-true}
 use Rattle.theory.proofs.LetterLaws.{letters_differ}
-use Rattle.theory.proofs.TestLaws.{eqb_same, not_both, or_cases, or_right}
+use Rattle.std.proofs.lemmas.Bool.{or_cases, or_right}
+use Rattle.theory.proofs.TestLaws.{eqb_same, not_both}
 use Rattle.theory.specs.Corner.{next, previous, triangle}
 use Rattle.theory.specs.Lists.{mem}
 use Rattle.theory.specs.Walk.{Step, ◌＠◌, marks, seen, tips}

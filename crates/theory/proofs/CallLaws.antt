@@ -20,7 +20,7 @@ use Rattle.theory.specs.Calls.{cleared, filled, sizes}
 use Rattle.theory.specs.Judge.{letter_answer, letter_rungs, string_done}
 use Rattle.theory.specs.Lists.{mem}
 use Rattle.theory.specs.Mesh.{mesh_rungs}
-use Rattle.theory.specs.declared.Answer.{Answer}
+use Rattle.theory.specs.Answer.{Answer}
 
 -- every rung of a list has a number with P
 abbrev pub EachRung : (ℕ → Type 0) → List Rung → Type 0

@@ -15,13 +15,14 @@ use Rattle.theory.proofs.CallLaws.{sized_rest}
 use Rattle.theory.proofs.Closing.{answer_closes, closes_answer}
 use Rattle.theory.proofs.MeshMeaning.{accepted, judged_accepts, mesh_fits}
 use Rattle.theory.proofs.Passed.{Named, done_passed, passed_done, passes_whole}
-use Rattle.theory.proofs.TestLaws.{and_intro, and_left, and_right}
+use Rattle.std.proofs.lemmas.Bool.{and_from}
+use Rattle.theory.proofs.TestLaws.{and_left, and_right}
 use Rattle.theory.specs.Answer.{Rung, count_ok, count_rung, done, room_rung}
 use Rattle.theory.specs.Calls.{read_answer, write_answer}
 use Rattle.theory.specs.Judge.{letter_answer, letter_rungs, string_answer, string_done}
 use Rattle.theory.specs.Mesh.{Accepted, mesh_answer, mesh_rungs, shape_ok}
 use Rattle.theory.specs.Word.{Closes}
-use Rattle.theory.specs.declared.Answer.{Answer}
+use Rattle.theory.specs.Answer.{Answer}
 
 module _ (s : List ℕ) (n m k : ℕ) where
   abbrev read_rungs : List Rung
@@ -63,8 +64,8 @@ module _ (s : List ℕ) (n m k : ℕ) where
   unfolding read_answer string_answer letter_answer
   read_goes ok c p q r =
       let fits =
-      and_intro (leb (3 * length s) n) (leb (3 * length s) m && leb (12 * length s) k) (le-leb (3 * length s) n p)
-      (and_intro (leb (3 * length s) m) (leb (12 * length s) k) (le-leb (3 * length s) m q)
+      and_from (leb (3 * length s) n) (leb (3 * length s) m && leb (12 * length s) k) (le-leb (3 * length s) n p)
+      (and_from (leb (3 * length s) m) (leb (12 * length s) k) (le-leb (3 * length s) m q)
       (le-leb (12 * length s) k r)) in
       sized_rest (count_ok (length s)) (leb (3 * length s) n && (leb (3 * length s) m && leb (12 * length s) k))
       (letter_rungs s) (string_done s) ok fits
@@ -86,8 +87,8 @@ module _ (vs os : List ℕ) (v g n m k : ℕ) where
   unfolding write_answer mesh_answer
   write_goes a p q r =
       let t = length vs / 3 in
-      let fits = and_intro (leb t n) (leb t m && leb (12 * t) k) (le-leb t n p)
-      (and_intro (leb t m) (leb (12 * t) k) (le-leb t m q) (le-leb (12 * t) k r)) in
+      let fits = and_from (leb t n) (leb t m && leb (12 * t) k) (le-leb t n p)
+      (and_from (leb t m) (leb (12 * t) k) (le-leb t m q) (le-leb (12 * t) k r)) in
       sized_rest (shape_ok vs os) write_room (mesh_rungs vs os v g) (done t v) a.shape fits ∙ judged_accepts vs os v g a
 
   pub write_done : (write_answer vs os v g n m k).number ≡ 0 → WriteDone

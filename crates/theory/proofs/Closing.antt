@@ -10,7 +10,7 @@ use Rattle.theory.proofs.Verdict.{Verdict, closed, follows, foreign, pinched, un
 use Rattle.theory.proofs.WordLaws.{word_of_spell}
 use Rattle.theory.specs.Judge.{letter_answer, string_done}
 use Rattle.theory.specs.Word.{Closes, word_of}
-use Rattle.theory.specs.declared.Answer.{Answer}
+use Rattle.theory.specs.Answer.{Answer}
 
 pub answer_closes : (s : List ℕ) → (letter_answer s).number ≡ 0 → Closes s
 answer_closes s = go (letter_answer s) (verdict s)

@@ -15,7 +15,8 @@ use borrow.Author.Tests.{eq-eqb}
 use Rattle.theory.proofs.CornerLaws.{Place, at_left, at_right, at_tip, place}
 use Rattle.theory.proofs.Counting.{bit_off, count}
 use Rattle.theory.proofs.Places.{bit_on}
-use Rattle.theory.proofs.TestLaws.{not_both, or_cases, or_left, or_right}
+use Rattle.std.proofs.lemmas.Bool.{or_cases, or_left, or_right}
+use Rattle.theory.proofs.TestLaws.{not_both}
 use Rattle.theory.specs.Corner.{opposite, triangle}
 use Rattle.theory.specs.Lists.{mem}
 use Rattle.theory.specs.Mesh.{facing, touches}

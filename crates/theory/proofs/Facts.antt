@@ -19,7 +19,8 @@ use Rattle.theory.proofs.CornerLaws.{next_low, previous_low, triangle_next, tria
 use Rattle.theory.proofs.Each.{EachN, each_n_map}
 use Rattle.theory.proofs.Runs.{Drop, Run, end, left_done, new, resume, right_done, skip, split, stay}
 use Rattle.theory.proofs.SphereLaws.{other_triangle}
-use Rattle.theory.proofs.TestLaws.{not_both, or_cases}
+use Rattle.std.proofs.lemmas.Bool.{or_cases}
+use Rattle.theory.proofs.TestLaws.{not_both}
 use Rattle.theory.proofs.WalkState.{In, Says, State, dropped_each, kept_c, kept_e, kept_l, kept_r, kept_s, says, says_c, says_e, says_l, says_r, says_s}
 use Rattle.theory.specs.Corner.{left, next, previous, right, triangle}
 use Rattle.theory.specs.Lists.{mem}

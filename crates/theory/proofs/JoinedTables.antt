@@ -14,7 +14,7 @@ use lib.ListN.{get_or-eq_default, get_or, length}
 use Rattle.theory.proofs.Chain.{Each}
 use Rattle.theory.proofs.Counting.{bit_off, count, tris, tris_off, tris_once}
 use Rattle.theory.proofs.JoinLaws.{Join, joined_at}
-use Rattle.theory.proofs.ListLaws.{entry_any}
+use Rattle.std.proofs.lemmas.List.{get_or_default}
 use Rattle.theory.proofs.Opens.{ends}
 use Rattle.theory.specs.Corner.{opposite}
 use Rattle.theory.specs.Tables.{Pair, ◌⇌◌, join_at, joined}
@@ -28,7 +28,7 @@ pub join_entry : (os : List ℕ) (a b : ℕ) → Join (opposite os) a b → get_
 join_entry os a b h = go (dec_lt a (length os))
   where
     go : Dec (a < length os) → get_or os a 0 ≡ b
-    go (yes l) = entry_any os a 0 a l ∙ h.0
+    go (yes l) = get_or_default os a 0 a l ∙ h.0
     go (no l) = absurd (h.2 (sym (get_or-eq_default os a (omega arith)) ∙ h.0))
 
 module _ (n : ℕ) (js : List Pair) (ends-are : (x : ℕ) → count x (ends js) ≡ count x (tris 0 n)) where

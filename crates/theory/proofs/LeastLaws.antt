@@ -10,7 +10,8 @@ use Prim.Native.Nat.{◌+◌, ◌<◌, ◌≤◌, suc, zero, ℕ}
 use native.Mathlib.Decide.{dec_lt, ℕ_discrete}
 use native.Mathlib.Omega.{arith}
 use borrow.Author.Tests.{eq-eqb, eqb-false, eqb-true}
-use Rattle.theory.proofs.TestLaws.{not_both, not_is_false, not_is_true}
+use Rattle.std.proofs.lemmas.Bool.{not-false, not-true}
+use Rattle.theory.proofs.TestLaws.{not_both}
 use Rattle.theory.specs.Lists.{all, least, least_from, some}
 
 module _ (ok : ℕ → Bool) where
@@ -112,8 +113,8 @@ module _ (ok : ℕ → Bool) where
   pub some_one : (n : ℕ) → some ok n ≡ true → (k : ℕ) × (k < n) × (ok k ≡ true)
   unfolding some
   some_one n e =
-      let q = all_not (λ i. not (ok i)) n (not_is_true (all (λ i. not (ok i)) n) e) in
-      (least (λ i. not (ok i)) n, q.0, not_is_false (ok (least (λ i. not (ok i)) n)) q.1)
+      let q = all_not (λ i. not (ok i)) n (not-true (all (λ i. not (ok i)) n) e) in
+      (least (λ i. not (ok i)) n, q.0, not-false (ok (least (λ i. not (ok i)) n)) q.1)
 
 -- ---- a scan from 0 on
 

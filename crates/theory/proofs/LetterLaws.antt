@@ -4,6 +4,8 @@
 --   is_c              a letter is C or not
 --   letter_new        a byte read as C is C
 --   View b, view b    what a byte is: one of the five codes, or no letter
+--   letter_else       a byte that is no letter is read as S
+--   letter_read       what a byte reads as, S where it is no letter
 use mathlib.Core.Bool.{Bool, cond, false, true}
 use mathlib.Core.Logic.{◌≢◌}
 use mathlib.Core.Path.{◌∙◌, ◌≡◌, ap, refl, sym}
@@ -11,7 +13,11 @@ use Prim.Native.Nat.{ℕ}
 use native.Mathlib.Omega.{arith}
 use lib.Dec.{eqb}
 use borrow.Author.Tests.{eq-eqb, eqb-false, eqb-true}
-use Rattle.theory.specs.Letter.{byte, is_letter, letter}
+use Rattle.std.specs.Prelude.{Result, Ok, Err}
+use Rattle.std.specs.Result.{result_unwrap_or}
+use Rattle.theory.proofs.TestLaws.{not_both}
+use Rattle.theory.specs.Letter.{Decodes, byte, is_letter, letter}
+use Rattle.theory.specs.declared.Foreign.{Foreign}
 use Rattle.theory.specs.declared.Letter.{Letter}
 use Rattle.theory.specs.declared.Letter.TheVariants.{C, E, L, R, S}
 
@@ -66,3 +72,24 @@ view b = go (is_letter b) refl
     go : (x : Bool) → eqb (byte (letter b)) b ≡ x → View b
     go true h = is (letter b) (sym (eqb-true (byte (letter b)) b h)) refl
     go false h = none h
+
+pub letter_else : (b : ℕ) → is_letter b ≡ false → letter b ≡ S
+unfolding letter
+letter_else b e = go (eqb b 67) (eqb b 76) (eqb b 69) (eqb b 82) refl refl refl refl
+  where
+    no : (a : Letter) → eqb b (byte a) ≡ true → {X : Type 0} → X
+    no a q =
+        let n : b ≡ byte a = eqb-true b (byte a) q in
+        absurd (not_both (is_letter b) (ap is_letter n ∙ byte_is_letter a) e)
+
+    go : (p q r t : Bool) → eqb b 67 ≡ p → eqb b 76 ≡ q → eqb b 69 ≡ r → eqb b 82 ≡ t
+        → cond p C (cond q L (cond r E (cond t R S))) ≡ S
+    go true q r t e1 e2 e3 e4 = no C e1
+    go false true r t e1 e2 e3 e4 = no L e2
+    go false false true t e1 e2 e3 e4 = no E e3
+    go false false false true e1 e2 e3 e4 = no R e4
+    go false false false false e1 e2 e3 e4 = refl
+
+pub letter_read : (b : ℕ) (r : Result Letter Foreign) → Decodes b r → result_unwrap_or r S ≡ letter b
+letter_read b (Ok a) h = h.1
+letter_read b (Err e) h = sym (letter_else b h.0)

@@ -1,12 +1,14 @@
 -- Laws first, then theorems in the order of dependence.
 pub mod TestLaws
 pub mod LeastLaws
+pub mod LowestLaws
 pub mod GreatestLaws
 pub mod ListLaws
 pub mod Each
 pub mod Counting
 pub mod Injections
 pub mod AnswerLaws
+pub mod ResultLaws
 pub mod CornerLaws
 pub mod LetterLaws
 pub mod WordLaws

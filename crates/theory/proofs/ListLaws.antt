@@ -1,7 +1,7 @@
 -- Laws of `head`, `tail`, `front` and `back`.
 use mathlib.Core.List.{List, [], ◌++◌, ◌∷◌}
 use mathlib.Core.Path.{◌≡◌, ap, refl}
-use Prim.Native.Nat.{◌+◌, ◌-◌, ◌<◌, ◌≤◌, suc, zero, ℕ}
+use Prim.Native.Nat.{◌+◌, ◌-◌, ◌≤◌, suc, zero, ℕ}
 use native.Mathlib.Omega.{arith}
 use lib.ListN.{drop, get_or, length, take}
 use Rattle.theory.specs.Lists.{back, front, head, tail}
@@ -103,9 +103,3 @@ pub length_tail : (us : List ℕ) → 1 ≤ length us → length (tail us) + 1 �
 unfolding tail
 length_tail [] h = absurd (omega arith)
 length_tail (u ∷ us) h = omega arith
-
--- an entry inside a list does not depend on the default
-pub entry_any : (l : List ℕ) (i d e : ℕ) → i < length l → get_or l i d ≡ get_or l i e
-entry_any [] i d e h = absurd (omega arith)
-entry_any (x ∷ l) zero d e h = refl
-entry_any (x ∷ l) (suc i) d e h = entry_any l i d e (omega arith)

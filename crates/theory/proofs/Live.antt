@@ -14,7 +14,7 @@ use Rattle.theory.proofs.CornerLaws.{triangle_low}
 use Rattle.theory.proofs.Counting.{bit, bit_off, bit_refl, count, pigeon}
 use Rattle.theory.proofs.Injections.{length_vals, vals, vals_in}
 use Rattle.theory.proofs.Runs.{Drop, Run, end, left_done, new, resume, right_done, skip, split, stay}
-use Rattle.theory.proofs.TestLaws.{or_no}
+use Rattle.std.proofs.lemmas.Bool.{or_parts}
 use Rattle.theory.proofs.WalkState.{New, Says, State, kept_c, kept_e, kept_l, kept_r, kept_s, look, started}
 use Rattle.theory.specs.Corner.{left, right, triangle}
 use Rattle.theory.specs.Mesh.{Sphere}
@@ -37,7 +37,7 @@ module _ {lab opp : ℕ → ℕ} {t v g : ℕ} (mesh : Sphere lab opp t v g) whe
   unfolding places count seen bit
   absent [] d h = refl
   absent ((a ＠ y) ∷ pre) d h =
-      let q = or_no (eqb (triangle d) (triangle y)) (seen pre d) h in
+      let q = or_parts (eqb (triangle d) (triangle y)) (seen pre d) h in
       let i = absent pre d q.1 in
       rw q.0 (omega arith)
 

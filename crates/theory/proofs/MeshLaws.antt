@@ -17,7 +17,8 @@ use lib.ListN.{get_or-eq_default, length}
 use borrow.Author.Tests.{eq-eqb, eqb-false, eqb-true, leb-true, lt-ltb, ltb-true, ne_eqb}
 use Rattle.theory.proofs.CornerLaws.{Place, at_left, at_right, at_tip, next_left, next_right, next_tip, place}
 use Rattle.theory.proofs.SwingLaws.{Surface}
-use Rattle.theory.proofs.TestLaws.{and_left, and_right, not_is_true}
+use Rattle.std.proofs.lemmas.Bool.{not-true}
+use Rattle.theory.proofs.TestLaws.{and_left, and_right}
 use Rattle.theory.specs.Answer.{count_ok}
 use Rattle.theory.specs.Corner.{next, opposite, previous, triangle, vertex}
 use Rattle.theory.specs.Mesh.{apart_at, glued_at, paired_at, shape_ok}
@@ -66,7 +67,7 @@ module _ (os : List ℕ) (c : ℕ) where
       record {
         inside = ltb-true opp (length os) a.0;
         back = eqb-true (opposite os opp) c b.0;
-        moves = eqb-false opp c (not_is_true (eqb opp c) b.1);
+        moves = eqb-false opp c (not-true (eqb opp c) b.1);
       }
 
   pub paired_test : Paired os c → paired_at os c ≡ true
@@ -104,7 +105,7 @@ module _ (vs : List ℕ) where
       k = triangle c
 
       differ : (a b : ℕ) → not (eqb (vertex vs a) (vertex vs b)) ≡ true → Differ a b
-      differ a b q = eqb-false (vertex vs a) (vertex vs b) (not_is_true (eqb (vertex vs a) (vertex vs b)) q)
+      differ a b q = eqb-false (vertex vs a) (vertex vs b) (not-true (eqb (vertex vs a) (vertex vs b)) q)
 
       off : ℕ → ℕ → Bool
       off a b = not (eqb (vertex vs a) (vertex vs b))

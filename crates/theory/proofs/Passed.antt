@@ -12,9 +12,9 @@ use native.Mathlib.Decide.{dec_lt}
 use native.Mathlib.Omega.{arith}
 use Rattle.theory.proofs.AnswerLaws.{none_broken, rung_passed, rung_stops}
 use Rattle.theory.proofs.LeastLaws.{least_all, least_below}
-use Rattle.theory.proofs.TestLaws.{true_or_false}
+use Rattle.std.proofs.lemmas.Bool.{cases_Bool}
 use Rattle.theory.specs.Answer.{Rung, each, first_broken, whole}
-use Rattle.theory.specs.declared.Answer.{Answer}
+use Rattle.theory.specs.Answer.{Answer}
 
 abbrev pub Passed : List Rung → Type 0
 Passed [] = Unit {0}
@@ -53,7 +53,7 @@ module _ (n : ℕ) (ok : Bool) where
   whole_passes e = rw e (omega arith)
 
   pub passes_whole : (whole n ok).limit ≤ (whole n ok).place → ok ≡ true
-  passes_whole h = go (true_or_false ok)
+  passes_whole h = go (cases_Bool ok)
     where
       go : (ok ≡ true) ⊎ (ok ≡ false) → ok ≡ true
       go (inl e) = e

@@ -17,7 +17,8 @@ use Rattle.theory.proofs.Facing.{facing_count, facing_in, new, touches_at, touch
 use Rattle.theory.proofs.Injections.{length_vals, vals, vals_in}
 use Rattle.theory.proofs.Members.{mem_append, mem_false, mem_true}
 use Rattle.theory.proofs.Places.{bit_on}
-use Rattle.theory.proofs.TestLaws.{and_intro, and_left, and_right, not_both, not_is_true, or_cases, or_left, true_or_false}
+use Rattle.std.proofs.lemmas.Bool.{and_from, cases_Bool, not-true, or_cases, or_left}
+use Rattle.theory.proofs.TestLaws.{and_left, and_right, not_both}
 use Rattle.theory.specs.Corner.{opposite, triangle}
 use Rattle.theory.specs.Lists.{mem}
 use Rattle.theory.specs.Mesh.{Reach, facing, here, over, reached, touches}
@@ -38,7 +39,7 @@ module _ (os : List ℕ) (t a : ℕ) where
       go : Dec (k ≡ a) → (bit (eqb k a) + 0 ≤ 1) × (1 ≤ bit (eqb k a) + 0 → k < t)
       go (yes p) = (omega (arith, bit_on k a p), λ l. omega arith)
       go (no p) = (omega (arith, bit_off k a p), λ l. absurd (omega (arith, bit_off k a p)))
-  reached_count h (suc n) k = go (true_or_false (mem k ks)) (reached_count h n k)
+  reached_count h (suc n) k = go (cases_Bool (mem k ks)) (reached_count h n k)
     where
       ks : List ℕ
       ks = reached os t n a
@@ -58,7 +59,7 @@ module _ (os : List ℕ) (t a : ℕ) where
               at (no z) =
                   let q = ((facing_count os ks t 0 k).1 (omega arith)).2 in
                   absurd (not_both (mem k ks) e
-                  (not_is_true (mem k ks) (and_left (not (mem k ks)) (touches os ks k) q)))
+                  (not-true (mem k ks) (and_left (not (mem k ks)) (touches os ks k) q)))
       go (inr e) r =
           let z = mem_false k ks e in
           let f = facing_count os ks t 0 k in (
@@ -91,7 +92,7 @@ module _ (os : List ℕ) (t a : ℕ) where
       ks = reached os t n a
 
       settled : facing os ks t 0 ≡ [] → Settled ks
-      settled e k h = at (true_or_false (new os ks k))
+      settled e k h = at (cases_Bool (new os ks k))
         where
           at : (new os ks k ≡ true) ⊎ (new os ks k ≡ false) → new os ks k ≡ false
           at (inl q) =
@@ -150,7 +151,7 @@ module _ (os : List ℕ) (t a : ℕ) (paired : (c : ℕ) → opposite os (opposi
     pub reached_whole : {k : ℕ} → Reach (opposite os) a k → mem k met ≡ true
     reached_whole here = reached_start os t a t
     reached_whole (over c r) =
-        go (dec_lt c (3 * t)) (true_or_false (mem (triangle (opposite os c)) met)) (reached_whole r)
+        go (dec_lt c (3 * t)) (cases_Bool (mem (triangle (opposite os c)) met)) (reached_whole r)
       where
         go : Dec (c < 3 * t)
             → (mem (triangle (opposite os c)) met ≡ true) ⊎ (mem (triangle (opposite os c)) met ≡ false)
@@ -158,7 +159,7 @@ module _ (os : List ℕ) (t a : ℕ) (paired : (c : ℕ) → opposite os (opposi
         go d (inl q) e = q
         go (yes l) (inr q) e =
             absurd (not_both (new os met (triangle (opposite os c)))
-            (and_intro (not (mem (triangle (opposite os c)) met)) (touches os met (triangle (opposite os c))) (ap not q)
+            (and_from (not (mem (triangle (opposite os c)) met)) (touches os met (triangle (opposite os c))) (ap not q)
             (touches_at os met (opposite os c) (ap (λ (d : ℕ). mem (triangle d) met) (paired c) ∙ e)))
             (settled (triangle (opposite os c)) (omega (arith, low c l))))
         go (no l) (inr q) e = ap (λ (d : ℕ). mem (triangle d) met) (get_or-eq_default os c {n = c} (omega arith)) ∙ e

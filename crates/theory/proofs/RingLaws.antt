@@ -20,7 +20,8 @@ use Rattle.theory.proofs.LeastLaws.{all_each, all_true}
 use Rattle.theory.proofs.Places.{bit_on, count_short, length_places, places, places_at, places_once, places_only, vals_apart, vals_meet}
 use Rattle.theory.proofs.RingTests.{first_in, ringed_meets, ringed_present, ringed_true}
 use Rattle.theory.proofs.SwingLaws.{Surface, swing_inj, swings, swings_add, swings_apart, swings_low, swings_more, swings_none, swings_round, swings_vertex}
-use Rattle.theory.proofs.TestLaws.{not_is_true, same_test}
+use Rattle.std.proofs.lemmas.Bool.{not-true}
+use Rattle.theory.proofs.TestLaws.{same_test}
 use Rattle.theory.specs.Corner.{opposite, swing, vertex}
 use Rattle.theory.specs.Lists.{all, iter}
 use Rattle.theory.specs.Mesh.{first_corner, ringed_at}
@@ -105,7 +106,7 @@ module _ {vs os : List ℕ} (s : Surface vs os) (u : ℕ) where
   away_far t zero a b = absurd (omega arith)
   away_far t (suc j) a b =
       eqb-false (swings os (suc j) (first_corner vs u)) (first_corner vs u)
-      (not_is_true (eqb (swings os (suc j) (first_corner vs u)) (first_corner vs u))
+      (not-true (eqb (swings os (suc j) (first_corner vs u)) (first_corner vs u))
       (all_each still (count u vs - 1) t j (omega arith)))
 
   -- .. if swinging meets all corners of u

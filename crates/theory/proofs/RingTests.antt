@@ -16,7 +16,8 @@ use Rattle.theory.proofs.Counting.{count}
 use Rattle.theory.proofs.LeastLaws.{all_each, all_true, least_at, least_below, least_fails, some_one, some_true}
 use Rattle.theory.proofs.Places.{count_find, counted}
 use Rattle.theory.proofs.SwingLaws.{swings}
-use Rattle.theory.proofs.TestLaws.{and_intro, and_left, and_right, not_is_false, not_is_true}
+use Rattle.std.proofs.lemmas.Bool.{and_from, not-false, not-true}
+use Rattle.theory.proofs.TestLaws.{and_left, and_right}
 use Rattle.theory.specs.Corner.{vertex}
 use Rattle.theory.specs.Lists.{all, least}
 use Rattle.theory.specs.Mesh.{first_corner, meets, ringed_at}
@@ -41,11 +42,11 @@ module _ (vs : List ℕ) (u : ℕ) where
       go (yes h) = (
         h,
         eqb-true (vertex vs (least other (length vs))) u
-            (not_is_false (eqb (vertex vs (least other (length vs))) u) (least_fails other (length vs) h)),
+            (not-false (eqb (vertex vs (least other (length vs))) u) (least_fails other (length vs) h)),
       )
       go (no h) =
           let r = count_find u vs p in
-          absurd (eqb-false (vertex vs r.0) u (not_is_true (eqb (vertex vs r.0) u)
+          absurd (eqb-false (vertex vs r.0) u (not-true (eqb (vertex vs r.0) u)
           (least_below other (length vs) r.0 (omega (arith, r.1)))) r.2)
 
   pub first_none : count u vs ≡ 0 → length vs ≤ first_corner vs u
@@ -55,7 +56,7 @@ module _ (vs : List ℕ) (u : ℕ) where
       go : Dec (least other (length vs) < length vs) → length vs ≤ least other (length vs)
       go (yes h) =
           let q = eqb-true (vertex vs (least other (length vs))) u
-          (not_is_false (eqb (vertex vs (least other (length vs))) u) (least_fails other (length vs) h)) in
+          (not-false (eqb (vertex vs (least other (length vs))) u) (least_fails other (length vs) h)) in
           absurd (omega (arith, counted u (least other (length vs)) vs h q))
       go (no h) = omega arith
 
@@ -87,7 +88,7 @@ module _ (vs os : List ℕ) (u : ℕ) where
       → ringed_at vs os u ≡ true
   unfolding ringed_at
   ringed_true p f =
-      and_intro (ltb (first_corner vs u) (length vs)) (all met (length vs))
+      and_from (ltb (first_corner vs u) (length vs)) (all met (length vs))
       (lt-ltb (first_corner vs u) (length vs) (first_in vs u p).0)
       (all_true met (length vs) (λ d h. met_true d (f d h)))
 

@@ -17,14 +17,15 @@ use Rattle.theory.proofs.JudgeLaws.{breaks_five, breaks_four, breaks_seven, brea
 use Rattle.theory.proofs.LeastLaws.{Before, least_all, least_at, least_below, least_fails}
 use Rattle.theory.proofs.Pinches.{Free, Pinch, free_sound, pinch_found, pinch_test, sound_free}
 use Rattle.theory.proofs.Reading.{Letters, Read, end_first, end_whole, letters_spell, read}
-use Rattle.theory.proofs.TestLaws.{not_both, not_is_false, not_is_true}
+use Rattle.std.proofs.lemmas.Bool.{not-false, not-true}
+use Rattle.theory.proofs.TestLaws.{not_both}
 use Rattle.theory.proofs.WordLaws.{word_of_spell}
 use Rattle.theory.specs.Answer.{first_broken, refused}
 use Rattle.theory.specs.Judge.{letter_answer, letter_rungs, pinched_at, string_done, words_end}
 use Rattle.theory.specs.Letter.{is_letter}
 use Rattle.theory.specs.Lists.{greatest, least}
 use Rattle.theory.specs.Word.{Closes, Sound, Word, spell, width, word_of}
-use Rattle.theory.specs.declared.Answer.{Answer}
+use Rattle.theory.specs.Answer.{Answer}
 
 pub data Verdict (s : List ℕ) : Answer → Type 0 where
   -- 3: the first byte that is no letter stands at p
@@ -133,7 +134,7 @@ module _ (s : List ℕ) where
           at (yes l) = l
           at (no l) =
               let test = pinch_test s q h in
-              let calm = not_is_true (pinched_at s q) (upper q (omega arith) test.0) in
+              let calm = not-true (pinched_at s q) (upper q (omega arith) test.0) in
               absurd (not_both (pinched_at s q) test.1 calm)
 
       last : Sound w → Dec (width w ≡ 2) → (a : Answer) × Verdict s a
@@ -147,10 +148,10 @@ module _ (s : List ℕ) where
           let same : t ≡ s = append-nil (spell w) ∙ sym e in
           let calm : Free w [] =
           λ p l. ap (λ (r : List ℕ). pinched_at r p) same
-          ∙ not_is_true (pinched_at s p) (free p (omega arith) (omega (arith, ap length e))) in
+          ∙ not-true (pinched_at s p) (free p (omega arith) (omega (arith, ap length e))) in
           last (free_sound w [] calm) (ℕ_discrete (width w) 2)
       go (inr (p, l, upper, bad)) =
-          let test = ap (λ (r : List ℕ). pinched_at r p) (sym e) ∙ not_is_false (pinched_at s p) bad in
+          let test = ap (λ (r : List ℕ). pinched_at r p) (sym e) ∙ not-false (pinched_at s p) bad in
           let found : Pinch s p = rw e (pinch_found w p (omega (arith, l, ap length e)) test) in
           (refused 6 p, pinched w e p found (largest p upper))
 

@@ -18,7 +18,8 @@ use Rattle.theory.proofs.CornerLaws.{next_low, next_next, next_previous, previou
 use Rattle.theory.proofs.Each.{EachN, each_n_map}
 use Rattle.theory.proofs.Runs.{Drop, skip, stay}
 use Rattle.theory.proofs.SphereLaws.{glued_left, other_triangle}
-use Rattle.theory.proofs.TestLaws.{eqb_same, not_both, or_cases, or_right, or_three}
+use Rattle.std.proofs.lemmas.Bool.{or_cases, or_right}
+use Rattle.theory.proofs.TestLaws.{eqb_same, not_both, or_three}
 use Rattle.theory.specs.Corner.{left, next, previous, right, triangle}
 use Rattle.theory.specs.Lists.{mem}
 use Rattle.theory.specs.Mesh.{Sphere}

@@ -5,7 +5,7 @@
 --   Judges Reads         the promises of judge_string and read_string, field by field
 --   Checks Writes        the promises of check_mesh and write_string
 use Rattle.std.specs.Prelude.{◌≡◌, cond, ◌&&◌, List, [], ◌∷◌, ◌++◌, ℕ, ◌*◌, ◌/◌, eqb, leb, length, drop, replicate}
-use Rattle.theory.specs.declared.Answer.{Answer}
+use Rattle.theory.specs.Answer.{Answer}
 use Rattle.theory.specs.Lists.{mem}
 use Rattle.theory.specs.Word.{word_of}
 use Rattle.theory.specs.Judge.{string_answer}

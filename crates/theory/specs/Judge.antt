@@ -6,7 +6,7 @@
 --   letter_rungs s    the checks 3 to 7 in their order
 --   string_answer     the answer for a string; fits says whether what is lent is long enough
 use Rattle.std.specs.Prelude.{Bool, not, ◌&&◌, List, [], ◌∷◌, ℕ, zero, suc, ◌+◌, ◌/◌, eqb, length, get_or, drop}
-use Rattle.theory.specs.declared.Answer.{Answer}
+use Rattle.theory.specs.Answer.{Answer}
 use Rattle.theory.specs.declared.Letter.{Letter}
 use Rattle.theory.specs.declared.Letter.TheVariants.{C, L, E, R, S}
 use Rattle.theory.specs.Lists.{greatest}

@@ -3,10 +3,11 @@
 --   head tail front back   the first element, all but it, all but the last, the last; 0 or [] of an empty list
 --   mem x l                x stands in l
 --   least ok n             the least i below n at which the test fails, n where there is none
+--   lowest ok n            that i, or none
 --   greatest ok n          the greatest such i, n where there is none
 --   all ok n, some ok n    the test holds at every, at some i below n
 --   iter f n x             f applied n times to x
-use Rattle.std.specs.Prelude.{Bool, false, not, cond, ◌||◌, List, [], ◌∷◌, ℕ, zero, suc, eqb}
+use Rattle.std.specs.Prelude.{Bool, false, not, cond, ◌||◌, List, [], ◌∷◌, ℕ, zero, suc, eqb, ltb, Option, Some, None}
 
 unfoldable pub head : List ℕ → ℕ
 head [] = 0
@@ -37,6 +38,9 @@ least_from ok (suc n) i = cond (ok i) (least_from ok n (suc i)) i
 
 unfoldable pub least : (ℕ → Bool) → ℕ → ℕ
 least ok n = least_from ok n 0
+
+unfoldable pub lowest : (ℕ → Bool) → ℕ → Option ℕ
+lowest ok n = cond (ltb (least ok n) n) (Some (least ok n)) None
 
 -- the last failure below n, or the given number
 unfoldable pub greatest_or : (ℕ → Bool) → ℕ → ℕ → ℕ

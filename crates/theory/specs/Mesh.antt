@@ -9,7 +9,7 @@
 --   mesh_answer                  the answer for a mesh; fits says whether what is lent is long enough
 --   Sphere                      the seven rules as properties
 use Rattle.std.specs.Prelude.{◌≡◌, ◌≢◌, Bool, true, not, cond, ◌&&◌, ◌||◌, List, [], ◌∷◌, ◌++◌, ℕ, zero, suc, ◌+◌, ◌*◌, ◌/◌, ◌%◌, ◌<◌, eqb, ltb, length}
-use Rattle.theory.specs.declared.Answer.{Answer}
+use Rattle.theory.specs.Answer.{Answer}
 use Rattle.theory.specs.Lists.{mem, least, all, some, iter}
 use Rattle.theory.specs.Answer.{Rung, each, whole, first_broken, done, count_ok, room_rung}
 use Rattle.theory.specs.Corner.{next, previous, triangle, vertex, opposite, swing}
