@@ -1,5 +1,5 @@
 pub mod Touching
 pub mod Searching
 pub mod SearchTables
-pub mod Branches
+pub mod Scans
 pub mod Judging

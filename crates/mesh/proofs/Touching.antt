@@ -6,7 +6,7 @@
 use mathlib.Core.List.{List, [], ◌∷◌}
 use mathlib.Core.Logic.{◌⊎◌, inl, inr}
 use mathlib.Core.Path.{◌∙◌, ◌≡◌, subst, sym}
-use Prim.Native.Nat.{◌*◌, ◌+◌, ◌<◌, ◌≤◌, suc, zero, ℕ}
+use Prim.Native.Nat.{◌*◌, ◌+◌, ◌<◌, suc, zero, ℕ}
 use native.Mathlib.Decide.{ℕ_discrete}
 use native.Mathlib.Omega.{arith}
 use lib.ListN.{get_or, length, set}
@@ -74,6 +74,3 @@ count_set (b ∷ l) (suc i) h e = omega (arith, count_set l i (omega arith) e)
 -- the measure of the search
 abbrev pub owed : Search → ℕ
 owed s = 2 * unseen s + length s.stack
-
-pub unseen_le : (s : Search) → owed s ≤ 2 * (unseen s + length s.stack)
-unseen_le s = omega arith

@@ -1,15 +1,14 @@
 -- A search for the triangles that are reached, as a machine on two lists: which triangles are seen, and which of them
 -- wait.
 --
---   across os k j      the triangle across corner j of triangle k
---   touch x s          x is seen, and waits if it was not
---   spread os k s      the three neighbours of k are touched
---   search_in t work p  the search, read off a work space: t numbers for what is seen, the stack at the end, its top at
---                      p
---   Closed t os        a table of t triangles whose entries are its corners
---   Exact os a seen    seen is not 0 exactly at the triangles that are reached from triangle a
---   marked work k      number k is not 0
-use Rattle.std.specs.Prelude.{Bool, cond, not, List, ◌∷◌, ◌≢◌, ◌≡◌, ◌*◌, ◌+◌, ◌<◌, ℕ, eqb, drop, get_or, length, set, take}
+--   across os k j           the triangle across corner j of triangle k
+--   touch x s               x is seen, and waits if it was not
+--   spread os k s           the three neighbours of k are touched
+--   search_at seen stack p  the search, read off two tables: what is seen, and what waits, from p on
+--   Closed t os             a table of t triangles whose entries are its corners
+--   Exact os a seen         seen is not 0 exactly at the triangles that are reached from triangle a
+--   marked work k           number k is not 0
+use Rattle.std.specs.Prelude.{Bool, cond, not, List, ◌∷◌, ◌≢◌, ◌≡◌, ◌*◌, ◌+◌, ◌<◌, ℕ, eqb, drop, get_or, length, set}
 use Rattle.theory.specs.Corner.{opposite, triangle}
 use Rattle.theory.specs.Mesh.{Reach}
 
@@ -26,8 +25,8 @@ touch x s = cond (eqb (get_or s.seen x 0) 0) (record { seen = set s.seen x 1; st
 abbrev pub spread : List ℕ → ℕ → Search → Search
 spread os k s = touch (across os k 2) (touch (across os k 1) (touch (across os k 0) s))
 
-abbrev pub search_in : ℕ → List ℕ → ℕ → Search
-search_in t work p = record { seen = take t work; stack = drop p work }
+abbrev pub search_at : List ℕ → List ℕ → ℕ → Search
+search_at seen stack p = record { seen = seen; stack = drop p stack }
 
 pub record Closed (t : ℕ) (os : List ℕ) : Type 0 where
   pub corners : length os ≡ 3 * t

@@ -1,17 +1,16 @@
 -- Laws of the counting loop: what a store keeps, and what the table says at the end.
 --
---   tallied_in tallied_out            the two arms of a store
---   tally_start tally_again tally_end tally_fits    the loop from the last corner down
---   first_of                          the first corner found is the first of all
+--   tally_start tally_room tally_turn, together tallying    the loop from the last corner down
+--   first_of                                                the first corner found is the first of all
 use mathlib.Core.Bool.{cond}
-use mathlib.Core.List.{List, ◌++◌}
+use mathlib.Core.List.{List}
 use mathlib.Core.Logic.{◌≢◌}
 use mathlib.Core.Path.{◌∙◌, ◌≡◌, ap, refl, subst, sym}
-use Prim.Native.Nat.{◌+◌, ◌-◌, ◌<◌, ◌≤◌, suc, zero, ℕ}
+use Prim.Native.Nat.{◌+◌, ◌<◌, ◌≤◌, suc, ℕ}
 use native.Mathlib.Decide.{dec_lt, ℕ_discrete}
 use native.Mathlib.Omega.{arith}
 use lib.Dec.{eqb, ltb}
-use lib.ListN.{get_or-append, drop, get_or, get_or-replicate, length, length-drop, length-replicate, length-set, replicate, set}
+use lib.ListN.{drop, get_or, length, length-drop, length-set, set}
 use lib.Seq.{drop-cons, drop-length, get_or-set_other, get_or-set_same}
 use borrow.Author.Tests.{le-ltb, lt-ltb}
 use Rattle.ring.specs.Tally.{First, Tallied, Zeros, tallied}
@@ -20,15 +19,6 @@ use Rattle.theory.proofs.Places.{bit_on, count_short}
 use Rattle.theory.proofs.RingTests.{first_at}
 use Rattle.theory.specs.Corner.{vertex}
 use Rattle.theory.specs.Mesh.{first_corner}
-
-pub tallied_in : (vs work : List ℕ) (c u : ℕ) → u ≡ vertex vs c → u < length vs
-    → set (set work u (get_or work u 0 + 1)) (length vs + u) c ≡ tallied vs c work
-unfolding tallied
-tallied_in vs work c u e h = rw (← e, lt-ltb u (length vs) h)
-
-pub tallied_out : (vs work : List ℕ) (c u : ℕ) → u ≡ vertex vs c → length vs ≤ u → work ≡ tallied vs c work
-unfolding tallied
-tallied_out vs work c u e h = rw (← e, le-ltb u (length vs) h)
 
 pub tally_start : (vs work : List ℕ) → Zeros (length vs) work → Tallied vs (length vs) work
 unfolding count
@@ -39,9 +29,9 @@ tally_start vs work z =
     zero_count u = rw (drop-length vs) refl
 
 -- a count stays below the number of corners while one is left
-pub tally_room : (vs work : List ℕ) (c u : ℕ) → c < length vs → Tallied vs (suc c) work → u < length vs
+pub tally_room : (vs work : List ℕ) (c u : ℕ) → 0 < c → Tallied vs c work → u < length vs
     → get_or work u 0 < length vs
-tally_room vs work c u h t l = omega (arith, t.counts u l, count_short u (drop (suc c) vs), length-drop (suc c) vs)
+tally_room vs work c u h t l = omega (arith, t.counts u l, count_short u (drop c vs), length-drop c vs)
 
 -- a later corner that is the first from c + 1 on is the first from c on, if c is of another vertex
 first_back : (vs : List ℕ) (c u d : ℕ) → u ≢ vertex vs c → First vs (suc c) u d → First vs c u d
@@ -115,29 +105,7 @@ module _ (vs work : List ℕ) (c : ℕ) (h : c < length vs) (room : length vs + 
                 (t.firsts u k (omega (arith, more u, bit_off u y (λ q. omega arith))));
           })
 
--- the same, as the loop goes down
-pub tally_fits : (vs work : List ℕ) (c u : ℕ) → 0 < c → c ≤ length vs → Tallied vs c work → u < length vs
-    → get_or work u 0 < length vs
-tally_fits vs work zero u p h t l = absurd (omega arith)
-tally_fits vs work (suc c) u p h t l = tally_room vs work c u h t l
-
-pub tally_next : (vs work : List ℕ) (c : ℕ) → 0 < c → c ≤ length vs → length vs + length vs ≤ length work
-    → Tallied vs c work → Tallied vs (c - 1) (tallied vs (c - 1) work)
-tally_next vs work zero p h room t = absurd (omega arith)
-tally_next vs work (suc c) p h room t = let q : suc c - 1 ≡ c = omega arith in rw q (tally_turn vs work c h room t)
-
-pub tally_again : (vs work work' : List ℕ) (c : ℕ) → 0 < c → c ≤ length vs → length vs + length vs ≤ length work
-    → Tallied vs c work → work' ≡ tallied vs (c - 1) work → Tallied vs (c - 1) work'
-tally_again vs work work' c p h room t e = subst (Tallied vs (c - 1)) (sym e) (tally_next vs work c p h room t)
-
-pub tally_end : (vs work : List ℕ) (c : ℕ) → c ≤ 0 → Tallied vs c work → Tallied vs 0 work
-tally_end vs work c h t = let q : c ≡ 0 = omega arith in subst (λ (i : ℕ). Tallied vs i work) q t
+pub ruleset tallying = (tally_start, tally_room, tally_turn)
 
 pub first_of : (vs : List ℕ) (u d : ℕ) → First vs 0 u d → d ≡ first_corner vs u
 first_of vs u d f = first_at vs u d f.low f.is (λ e h. f.before e (omega arith) h)
-
--- a table whose front is cleared
-pub zeros_front : (n : ℕ) (work rest : List ℕ) → work ≡ replicate n 0 ++ rest → Zeros n work
-zeros_front n work rest e u h =
-    ap (λ (l : List ℕ). get_or l u 0) e ∙ get_or-append (replicate n 0) rest 0 u (rw (length-replicate {A = ℕ} n 0) h)
-    ∙ get_or-replicate n u 0 0 h

@@ -1,10 +1,6 @@
--- `away_for` meets its contract. d is the corner after i swings; the measure is how many are left.
-use Prim.Native.Nat.{◌-◌}
+-- `away_for` meets its contract: at every turn d is the corner after as many swings as the counter says.
 use Rattle.ring.proofs.Turns.{Swinging}
 use Rattle.ring.proofs.away_for.Given as goal
 
-abbrev pub invariant-loop-i : goal.invariant-loop-i
-invariant-loop-i l = Swinging l.os l.c l.d l.i
-
-abbrev pub decreases-loop-i : goal.decreases-loop-i
-decreases-loop-i l = l.k - l.i
+abbrev pub invariant-loop : goal.invariant-loop
+invariant-loop l = Swinging l.pairs.os.now l.c l.d l.counter
