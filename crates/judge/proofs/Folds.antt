@@ -3,21 +3,20 @@
 --   spells ws        the letters of some words, one word after the other
 --   Sounds ws        each of them is sound
 --   Folded t st      t is the letters of sound words of the widths st
---   folded_last      E alone
---   folded_before    a letter more, where the stack of widths takes it and no C stands before width 2
+--   folded_none      no letters
+--   folded_before    a letter more, where the stack of widths takes it and a width of 2 or more comes of it
 --   folded_wide      the widths are 2 or more
 --   folded_closes    one word of width 2 closes
 use mathlib.Core.List.{List, [], ◌++◌, ◌∷◌, append_assoc, append-nil}
 use mathlib.Core.Path.{◌∙◌, ◌≡◌, ap, refl, sym}
 use mathlib.Core.Bool.{true}
-use Prim.Native.Nat.{◌≤◌, ℕ}
+use Prim.Native.Nat.{◌≤◌, ◌-◌, ℕ}
 use native.Mathlib.Omega.{arith}
 use Rattle.judge.proofs.WidthLaws.{widths}
 use Rattle.judge.specs.Widths.{Wide, widths_before}
 use Rattle.theory.proofs.LetterLaws.{byte_letter}
 use Rattle.theory.proofs.WordLaws.{width_two}
 use Rattle.theory.specs.Letter.{byte, is_letter, letter}
-use Rattle.theory.specs.Lists.{head}
 use Rattle.theory.specs.Word.{Closes, Sound, Word, spell, w_c, w_e, w_l, w_r, w_s, width}
 use Rattle.theory.specs.declared.Letter.{Letter}
 use Rattle.theory.specs.declared.Letter.TheVariants.{C, E, L, R, S}
@@ -36,21 +35,21 @@ pub record Folded (t st : List ℕ) : Type 0 where
   pub sound : Sounds made
   pub wide : widths made ≡ st
 
-pub folded_last : Folded (byte E ∷ []) (3 ∷ [])
-unfolding spell width
-folded_last = record { made = w_e ∷ []; spelt = refl; sound = (tt, tt); wide = refl }
+pub folded_none : Folded [] []
+folded_none = record { made = []; spelt = refl; sound = tt; wide = refl }
 
 -- no stack is empty and not
 none : {A : Type 0} {w : ℕ} {st : List ℕ} → w ∷ st ≡ [] → A
 none e = absurd (let z : ◌≡◌ {A = ℕ} 0 1 = cc in omega arith)
 
-grown : (a : Letter) (ws : List Word) (w : ℕ) (st : List ℕ) → Sounds ws → (a ≡ C → 3 ≤ head (widths ws))
+grown : (a : Letter) (ws : List Word) (w : ℕ) (st : List ℕ) → Sounds ws → 2 ≤ w
     → w ∷ st ≡ widths_before a (widths ws) → Folded (byte a ∷ spells ws) (w ∷ st)
-unfolding widths_before spell width head
+unfolding widths_before spell width
 grown E ws w st h k e = record { made = w_e ∷ ws; spelt = refl; sound = (tt, h); wide = sym e }
 grown C [] w st h k e = none e
 grown C (v ∷ ws) w st h k e =
-    record { made = w_c v ∷ ws; spelt = refl; sound = ((h.0, k refl), h.1); wide = sym e }
+    let less : w ≡ width v - 1 = cc in
+    record { made = w_c v ∷ ws; spelt = refl; sound = ((h.0, omega arith), h.1); wide = sym e }
 grown L [] w st h k e = none e
 grown L (v ∷ ws) w st h k e = record { made = w_l v ∷ ws; spelt = refl; sound = h; wide = sym e }
 grown R [] w st h k e = none e
@@ -65,10 +64,10 @@ grown S (u ∷ (v ∷ ws)) w st h k e =
       wide = sym e;
     }
 
-pub folded_before : (b : ℕ) (t st st' : List ℕ) (w : ℕ) → Folded t st → is_letter b ≡ true
-    → (letter b ≡ C → 3 ≤ head st) → w ∷ st' ≡ widths_before (letter b) st → Folded (b ∷ t) (w ∷ st')
-folded_before b t st st' w f h k e =
-    let more = grown (letter b) f.made w st' f.sound (rw f.wide k) (rw f.wide e) in
+pub folded_before : (b : ℕ) (t : List ℕ) {st st' : List ℕ} {w : ℕ} → Folded t st → is_letter b ≡ true → 2 ≤ w
+    → w ∷ st' ≡ widths_before (letter b) st → Folded (b ∷ t) (w ∷ st')
+folded_before b t f h k e =
+    let more = grown (letter b) f.made _ _ f.sound k (rw f.wide e) in
     record {
       made = more.made;
       spelt = more.spelt ∙ rw (byte_letter b h, f.spelt);

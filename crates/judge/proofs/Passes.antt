@@ -1,20 +1,27 @@
--- The loop that reads the letters from the right: its invariant, how it begins, a turn of it, and its ends.
+-- The loop of `judge_widths`: its invariant, how it begins, a turn, and its ends.
 --
---   Passing s work₀ work p i   the letters from i on are read: work from p on is the widths of their words, and no C
---                              among them stands before a word of width 2
---   begins ready turns         the invariant, and what a step asks for
---   stops ends_wide ends_done  the three answers
-use mathlib.Core.Bool.{◌&&◌, false, not, true}
-use mathlib.Core.List.{List}
+--   Passing s w₀ left top st     the letters behind left are read: top and st are the widths of their words, and no C
+--                                among them stands before a word of width 2
+--   passes_begin passes_turn     at the start, and after a letter more
+--   stops ends_wide ends_done    the three answers
+use mathlib.Core.Bool.{Bool, ◌&&◌, false, not, true}
+use mathlib.Core.List.{List, [], ◌++◌, ◌∷◌, append_assoc, append-nil}
 use mathlib.Core.Path.{◌∙◌, ◌≡◌, ap, refl, sym}
-use Prim.Native.Nat.{◌*◌, ◌-◌, ◌<◌, ◌≤◌, suc, zero, ℕ}
+use Prim.Native.Nat.{◌+◌, ◌-◌, ℕ}
+use native.Mathlib.Numerals.{add-one}
 use native.Mathlib.Omega.{arith}
 use lib.Dec.{eqb}
-use lib.ListN.{drop, get_or, length, length-drop}
-use lib.Seq.{drop-cons, drop-length}
-use borrow.Author.Tests.{eq-eqb, ne_eqb}
-use Rattle.judge.proofs.WidthLaws.{before_length, before_total, before_wide, two_first, widths, widths_before_lem}
-use Rattle.judge.specs.Widths.{Ready, Stepped, Wide, total, widths_before}
+use lib.ListN.{drop, length, length-append}
+use lib.Seq.{drop-append-add, get_or-append_seam}
+use Rattle.std.proofs.lemmas.List.{nil_from_length}
+use Rattle.std.specs.List.{push}
+use Rattle.std.specs.Option.{option_eq}
+use Rattle.std.specs.Prelude.{Option, Some, None}
+use Rattle.judge.proofs.Standing.{Standing, stands_first, stands_turn}
+use Rattle.judge.proofs.WidthLaws.{before_wide, two_first, widths, widths_before_lem}
+use Rattle.judge.specs.Stack.{Turned, held, widths_of}
+use Rattle.judge.specs.Widths.{Wide}
+use Rattle.judge.specs.declared.stack.Stack.{Stack}
 use Rattle.theory.proofs.LetterLaws.{letter_new}
 use Rattle.theory.proofs.GreatestLaws.{Above, down_end, down_stop, down_turn}
 use Rattle.theory.proofs.JudgeLaws.{breaks_seven, breaks_six, seven_passed}
@@ -24,93 +31,98 @@ use Rattle.theory.specs.Judge.{letter_rungs, pinched_at, string_done}
 use Rattle.theory.specs.Letter.{byte, letter}
 use Rattle.theory.specs.Lists.{greatest, head}
 use Rattle.theory.specs.Word.{width, word_of, words}
+use Rattle.theory.specs.declared.Letter.{Letter}
 use Rattle.theory.specs.declared.Letter.TheVariants.{C}
 
-pub record Passing (s work₀ work : List ℕ) (p i : ℕ) : Type 0 where
-  pub at : i ≤ length s
-  pub same : length work ≡ length work₀
-  pub within : p ≤ length work
-  pub stack : drop p work ≡ widths (words (drop i s))
-  pub free : Above (λ q. not (pinched_at s q)) (length s) i
-  pub wide : Wide (drop p work)
-  pub small : total (drop p work) ≤ 3 * (length s - i)
-  pub room : length work - p ≤ length s - i
+pub record Passing (s w₀ left : List ℕ) (top : Option ℕ) (st : Stack) : Type 0 where
+  pub done : List ℕ
+  pub parts : left ++ done ≡ s
+  pub standing : Standing (length done) w₀ top st
+  pub stack : widths_of top (held st) ≡ widths (words done)
+  pub wide : Wide (widths_of top (held st))
+  pub free : Above (λ q. not (pinched_at s q)) (length s) (length left)
 
-pub begins : (s w : List ℕ) → Passing s w w (length w) (length s)
+pub passes_begin : (s w₀ left : List ℕ) (st : Stack) → left ≡ s → st.work.now ≡ w₀ → st.at ≡ length w₀
+    → Passing s w₀ left None st
 unfolding words
-begins s w =
+passes_begin s w₀ left st all e f =
     record {
-      at = omega arith;
-      same = refl;
-      within = omega arith;
-      stack = rw (drop-length s, drop-length w);
-      free = λ y h k. absurd (omega arith);
-      wide = rw (drop-length w) tt;
-      small = rw (drop-length w) (omega arith);
-      room = omega arith;
+      done = [];
+      parts = append-nil left ∙ all;
+      standing = stands_first w₀ st e f;
+      stack = refl;
+      wide = tt;
+      free = λ y h k. absurd (omega (arith, ap length all));
     }
 
--- what the code tests at a place is the definition's test
-test_same : (s st : List ℕ) (i : ℕ) → 0 < i → st ≡ widths (words (drop i s))
-    → (eqb (get_or s (i - 1) 0) (byte C) && eqb (head st) 2) ≡ pinched_at s (i - 1)
+-- what the code tests is the definition's test
+first_two : (top : Option ℕ) (st : List ℕ) → option_eq eqb top (Some 2) ≡ eqb (head (widths_of top st)) 2
+unfolding head
+first_two None st = refl
+first_two (Some w) st = refl
+
+pinch_here : (left done : List ℕ) (b : ℕ) (top : Option ℕ) (st : List ℕ) → widths_of top st ≡ widths (words done)
+    → (eqb b (byte C) && option_eq eqb top (Some 2)) ≡ pinched_at (left ++ (b ∷ done)) (length left)
 unfolding pinched_at
-test_same s st zero h e = absurd (omega arith)
-test_same s st (suc j) h e =
-    let q : suc j - 1 ≡ j = omega arith in
-    rw (q, e, two_first (words (drop (suc j) s)))
+pinch_here left done b top st e =
+    rw (get_or-append_seam left b done 0, ← add-one (length left), drop-append-add left (b ∷ done) 1)
+    rw (first_two top st, e, two_first (words done))
 
-widths_cons : (s : List ℕ) (i : ℕ) → 0 < i → i ≤ length s
-    → widths (words (drop (i - 1) s)) ≡ widths_before (letter (get_or s (i - 1) 0)) (widths (words (drop i s)))
-unfolding words
-widths_cons s zero h k = absurd (omega arith)
-widths_cons s (suc j) h k =
-    let q : suc j - 1 ≡ j = omega arith in
-    rw (q, drop-cons s j 0 k) (widths_before_lem (letter (get_or s j 0)) (words (drop (suc j) s)))
+module _ {s w₀ left : List ℕ} {top : Option ℕ} {st : Stack} (inv : Passing s w₀ left top st) (left' : List ℕ) (b : ℕ)
+    (next : left ≡ push left' b) where
+  more : length left ≡ length left' + 1
+  more = omega (arith, ap length next, length-append left' (b ∷ []))
 
-module _ (s w₀ w : List ℕ) (p i : ℕ) (inv : Passing s w₀ w p i) (more : 0 < i) where
-  pub ready : length s ≤ 65536 → length s ≤ length w₀ → Ready p w
-  ready h k = record { room = omega arith; within = inv.within; wide = inv.wide; small = omega arith }
+  parts : left' ++ (b ∷ inv.done) ≡ s
+  parts = sym (append_assoc left' (b ∷ []) inv.done) ∙ ap (λ (l : List ℕ). l ++ inv.done) (sym next) ∙ inv.parts
 
-  pub turns : (w' : List ℕ) (r : ℕ) → length w' ≡ length w
-      → (eqb (get_or s (i - 1) 0) (byte C) && eqb (head (drop p w)) 2) ≡ false
-      → Stepped (letter (get_or s (i - 1) 0)) w p w' r → Passing s w₀ w' r (i - 1)
-  turns w' r same calm stepped =
-      let b = get_or s (i - 1) 0 in
-      let a = letter b in
-      let e = stepped.stack in
-      let good = ap not (sym (test_same s (drop p w) i more inv.stack) ∙ calm) in
+  whole : length s ≡ length left + length inv.done
+  whole = omega (arith, ap length inv.parts, length-append left inv.done)
+
+  here : (eqb b (byte C) && option_eq eqb top (Some 2)) ≡ pinched_at s (length left')
+  here = rw (← parts) (pinch_here left' inv.done b top (held st) inv.stack)
+
+  pub passes_turn : {a : Letter} {st' : Stack} {r : Option ℕ} → a ≡ letter b → Turned a top st st' r
+      → (eqb b (byte C) && option_eq eqb top (Some 2)) ≡ false → Passing s w₀ left' r st'
+  unfolding words
+  passes_turn {a} e t calm =
+      let ok : ℕ → Bool = λ q. not (pinched_at s q) in
+      let back : length left - 1 ≡ length left' = omega (arith, more) in
+      let good : ok (length left - 1) ≡ true = rw back (ap not (sym here ∙ calm)) in
+      let two = first_two top (held st) in
       record {
-        at = omega arith;
-        same = same ∙ inv.same;
-        within = stepped.within;
-        stack = e ∙ ap (widths_before a) inv.stack ∙ sym (widths_cons s i more inv.at);
-        free = down_turn (λ q. not (pinched_at s q)) (length s) i inv.free good;
-        wide = rw e (before_wide a (drop p w) (λ new. and_rest _ _ (letter_new b new) calm) inv.wide);
-        small = rw e (omega (arith, before_total a (drop p w)));
-        room = omega (arith, ap length e, length-drop r w', length-drop p w, before_length a (drop p w));
+        done = b ∷ inv.done;
+        parts = parts;
+        standing = rw (← add-one (length inv.done)) (stands_turn inv.standing t);
+        stack = t.stack ∙ rw (e, inv.stack) (sym (widths_before_lem (letter b) (words inv.done)));
+        wide = rw t.stack (before_wide a _ (λ new. sym two ∙ and_rest _ _ (letter_new b (sym e ∙ new)) calm) inv.wide);
+        free = rw back at (down_turn ok (length s) (length left) inv.free good);
       }
 
-  pub stops : (eqb (get_or s (i - 1) 0) (byte C) && eqb (head (drop p w)) 2) ≡ true
-      → refused 6 (i - 1) ≡ first_broken (drop 3 (letter_rungs s)) (string_done s)
-  stops e =
-      let bad = ap not (sym (test_same s (drop p w) i more inv.stack) ∙ e) in
-      let last = down_stop (λ q. not (pinched_at s q)) (length s) i inv.free more inv.at bad in
-      breaks_six s (i - 1) (omega (arith, inv.at)) last
+  pub stops : (i : ℕ) → i ≡ length left' → b ≡ byte C → true ≡ option_eq eqb top (Some 2)
+      → refused 6 i ≡ first_broken (drop 3 (letter_rungs s)) (string_done s)
+  stops i at new two =
+      let e : (eqb b (byte C) && option_eq eqb top (Some 2)) ≡ true = rw (new, ← two) in
+      let ok : ℕ → Bool = λ q. not (pinched_at s q) in
+      let back : length left - 1 ≡ length left' = omega (arith, more) in
+      let bad : ok (length left - 1) ≡ false = rw back (ap not (sym here ∙ e)) in
+      let last = down_stop ok (length s) (length left) inv.free (omega (arith, more)) (omega (arith, whole)) bad in
+      breaks_six s i (omega (arith, at, more, whole)) (last ∙ back ∙ sym at)
 
-module _ (s w₀ w : List ℕ) (p i : ℕ) (inv : Passing s w₀ w p i) (end : i ≤ 0) where
+module _ {s w₀ left : List ℕ} {top : Option ℕ} {st : Stack} (inv : Passing s w₀ left top st)
+    (end : length left ≡ 0) where
   none_pinched : greatest (λ q. not (pinched_at s q)) (length s) ≡ length s
-  none_pinched = down_end (λ q. not (pinched_at s q)) (length s) i inv.free end
+  none_pinched = down_end (λ q. not (pinched_at s q)) (length s) (length left) inv.free (omega arith)
 
-  first_same : eqb (head (drop p w)) 2 ≡ eqb (width (word_of s)) 2
-  first_same = go i end inv.stack
-    where
-      go : (i : ℕ) → i ≤ 0 → drop p w ≡ widths (words (drop i s))
-          → eqb (head (drop p w)) 2 ≡ eqb (width (word_of s)) 2
-      go zero h e = rw e (two_first (words s))
-      go (suc i) h e = absurd (omega arith)
+  first_same : option_eq eqb top (Some 2) ≡ eqb (width (word_of s)) 2
+  first_same =
+      let all : s ≡ inv.done = sym inv.parts ∙ ap (λ (l : List ℕ). l ++ inv.done) (nil_from_length left end) in
+      rw all (first_two top (held st) ∙ rw inv.stack (two_first (words inv.done)))
 
-  pub ends_wide : (head (drop p w) ≡ 2 → ⊥) → refused 7 0 ≡ first_broken (drop 3 (letter_rungs s)) (string_done s)
-  ends_wide h = breaks_seven s none_pinched (sym first_same ∙ ne_eqb (head (drop p w)) 2 h)
+  pub ends_wide : option_eq eqb top (Some 2) ≡ false
+      → refused 7 0 ≡ first_broken (drop 3 (letter_rungs s)) (string_done s)
+  ends_wide h = breaks_seven s none_pinched (sym first_same ∙ h)
 
-  pub ends_done : head (drop p w) ≡ 2 → string_done s ≡ first_broken (drop 3 (letter_rungs s)) (string_done s)
-  ends_done h = seven_passed s none_pinched (sym first_same ∙ eq-eqb (head (drop p w)) 2 h)
+  pub ends_done : option_eq eqb top (Some 2) ≡ true
+      → string_done s ≡ first_broken (drop 3 (letter_rungs s)) (string_done s)
+  ends_done h = seven_passed s none_pinched (sym first_same ∙ h)

@@ -1,2 +1,3 @@
 pub mod Widths
-pub mod Closing
+pub mod Stack
+pub mod Ends

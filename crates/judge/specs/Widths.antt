@@ -1,12 +1,9 @@
--- The stack of widths with which the letters are judged from the right.
+-- The widths of words in a row, with which the letters are judged from the right.
 --
 --   widths_before a st   the widths of words, the first of them first, after a letter before words of the widths st
 --   total st            their sum
 --   Wide st             each of them is 2 or more
---   Ready p work        the stack that is work from p on can take a letter
---   Stepped a work p work' r    work' from r on is the stack that was work from p on, with the letter a before its
---                               words
-use Rattle.std.specs.Prelude.{List, [], ◌∷◌, ◌≡◌, ◌+◌, ◌-◌, ◌<◌, ◌≤◌, ℕ, drop, length}
+use Rattle.std.specs.Prelude.{List, [], ◌∷◌, ◌+◌, ◌-◌, ◌≤◌, ℕ}
 use Rattle.theory.specs.declared.Letter.{Letter}
 use Rattle.theory.specs.declared.Letter.TheVariants.{C, E, L, R, S}
 
@@ -29,13 +26,3 @@ total (w ∷ st) = w + total st
 abbrev pub Wide : List ℕ → Type 0
 Wide [] = Unit {0}
 Wide (w ∷ st) = (2 ≤ w) × Wide st
-
-pub record Ready (p : ℕ) (work : List ℕ) : Type 0 where
-  pub room : 0 < p
-  pub within : p ≤ length work
-  pub wide : Wide (drop p work)
-  pub small : total (drop p work) < 1000000
-
-pub record Stepped (a : Letter) (work : List ℕ) (p : ℕ) (work' : List ℕ) (r : ℕ) : Type 0 where
-  pub within : r ≤ length work'
-  pub stack : drop r work' ≡ widths_before a (drop p work)

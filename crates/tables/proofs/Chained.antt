@@ -50,7 +50,8 @@ module _ (work : List ℕ) where
   chained_front (x ∷ []) h = tt
   chained_front (x ∷ (y ∷ bs)) h = behind_front x (y ∷ bs) h
 
-  before_last : (b x : ℕ) (bs : List ℕ) → Behind b (x ∷ bs) → get_or work (back (x ∷ bs)) 0 ≡ back (front (b ∷ (x ∷ bs)))
+  before_last : (b x : ℕ) (bs : List ℕ) → Behind b (x ∷ bs)
+      → get_or work (back (x ∷ bs)) 0 ≡ back (front (b ∷ (x ∷ bs)))
   unfolding front back
   before_last b x [] h = h.0
   before_last b x (y ∷ bs) h = before_last x y bs h.1

@@ -12,12 +12,15 @@ use native.Mathlib.Numerals.{add-one}
 use native.Mathlib.Omega.{arith}
 use lib.ListN.{get_or-append, drop, drop_of_length-le, get_or, length, set, take}
 use lib.Seq.{append_snoc, drop-cons, get_or-take, length-take-le, set_at, take-length, take-suc}
-use Rattle.tables.specs.Fill.{Fill, after_facing, at_left, at_right, before_facing, fill_in, resumed, row, stored}
+use Rattle.tables.specs.Fill.{Fill, after_facing, at_left, at_right, before_facing, resumed, row, stored}
 use Rattle.theory.proofs.CornerLaws.{next_left, next_low, next_right, next_tip, previous_left, previous_low, previous_right, previous_tip}
 use Rattle.theory.proofs.JoinLaws.{Join}
 use Rattle.theory.proofs.JoinedTables.{join_entry}
 use Rattle.theory.proofs.Rows.{Agree}
 use Rattle.theory.specs.Corner.{next, opposite, previous, vertex}
+
+abbrev pub filled : List ℕ → ℕ → ℕ → ℕ → Fill
+filled us l r n = record { vs = us; left = l; right = r; new = n }
 
 module _ (vt vs₀ ot : List ℕ) (same : length vs₀ ≡ length vt) where
   unfoldable pub mix : ℕ → List ℕ
@@ -66,25 +69,25 @@ module _ (vt vs₀ ot : List ℕ) (same : length vs₀ ≡ length vt) where
 
   -- the machine before triangle k
   abbrev pub here : ℕ → ℕ → Fill
-  here k nv = fill_in (mix (3 * k)) (vertex vt (3 * k + 1)) (vertex vt (3 * k + 2)) nv
+  here k nv = filled (mix (3 * k)) (vertex vt (3 * k + 1)) (vertex vt (3 * k + 2)) nv
 
-  fill_same : (us us' : List ℕ) (l l' r r' n : ℕ) → us ≡ us' → l ≡ l' → r ≡ r' → fill_in us l r n ≡ fill_in us' l' r' n
+  fill_same : (us us' : List ℕ) (l l' r r' n : ℕ) → us ≡ us' → l ≡ l' → r ≡ r' → filled us l r n ≡ filled us' l' r' n
   fill_same us us' l l' r r' n p q e = rw (p, q, e) refl
 
   module _ (k nv x : ℕ) (is : x ≡ vertex vt (3 * k)) (m : 3 * (k + 1) ≤ length vt) where
     pub stored_mix : stored k x (here k nv) ≡ mix (3 * (k + 1))
-    unfolding fill_in
     stored_mix = rw is (row_mix k m)
 
-    pub at_right_lem : (n : ℕ) → Agree (vertex vt) (3 * k + 1) (3 * (k + 1)) → at_right k x n (here k nv) ≡ here (k + 1) n
-    unfolding at_right fill_in
+    pub at_right_lem : (n : ℕ) → Agree (vertex vt) (3 * k + 1) (3 * (k + 1))
+        → at_right k x n (here k nv) ≡ here (k + 1) n
+    unfolding at_right
     at_right_lem n g =
         fill_same (stored k x (here k nv)) (mix (3 * (k + 1))) x (vertex vt (3 * (k + 1) + 1)) (vertex vt (3 * k + 2))
         (vertex vt (3 * (k + 1) + 2)) n stored_mix (is ∙ rw (previous_left, next_tip) at g.1)
         (rw (next_left, previous_tip) at g.0)
 
     pub at_left_lem : Agree (vertex vt) (3 * k + 2) (3 * (k + 1)) → at_left k x (here k nv) ≡ here (k + 1) nv
-    unfolding at_left fill_in
+    unfolding at_left
     at_left_lem g =
         fill_same (stored k x (here k nv)) (mix (3 * (k + 1))) (vertex vt (3 * k + 1)) (vertex vt (3 * (k + 1) + 1)) x
         (vertex vt (3 * (k + 1) + 2)) nv stored_mix (rw (previous_right, next_tip) at g.1)

@@ -1,5 +1,5 @@
 -- The ends of the first pass: one word of width 2 is left or not, and table O and the records where it is.
-use mathlib.Core.Bool.{false, true}
+use mathlib.Core.Bool.{Bool, ◌&&◌, false, true}
 use mathlib.Core.List.{List, [], ◌∷◌, append-nil}
 use mathlib.Core.Logic.{◌≢◌}
 use mathlib.Core.Path.{◌∙◌, ◌≡◌, ap, refl, subst, sym}
@@ -11,13 +11,17 @@ use lib.Seq.{get_or-take, length-take-le}
 use borrow.Author.Tests.{eq-eqb, eqb-true}
 use Rattle.tables.proofs.Corners.{each_same, inner, inner_in, inner_not_open, join_left, join_off, join_right, last_in, length_join, open_in, some_open}
 use Rattle.tables.proofs.Enough.{Full}
-use Rattle.tables.proofs.Folding.{Folding, first_same}
+use Rattle.tables.proofs.Folding.{Folding, first_same, folding_stop, going}
+use Rattle.tables.specs.declared.Ends.{Ends}
+use Rattle.theory.specs.Letter.{is_letter, letter}
+use Rattle.theory.specs.declared.Letter.{Letter}
 use Rattle.tables.proofs.Held.{Held, Standing, recorded_same}
 use Rattle.tables.proofs.Neighbours.{made_table}
 use Rattle.tables.proofs.Stopping.{spells, spelt_words}
-use Rattle.tables.specs.Fold.{Foldable, Folded, Joined, fold_in}
+use Rattle.tables.specs.Fold.{Foldable, Folded, Joined, fold_in, stops}
 use Rattle.theory.proofs.Opens.{mates, opens}
-use Rattle.theory.proofs.TestLaws.{not_both}
+use Rattle.std.proofs.lemmas.Bool.{and_from}
+use Rattle.theory.proofs.TestLaws.{and_left, and_right, not_both}
 use Rattle.theory.proofs.WordLaws.{length_spell, words_one}
 use Rattle.theory.specs.Corner.{opposite}
 use Rattle.theory.specs.Lists.{back}
@@ -76,26 +80,35 @@ module _ (t : ℕ) (work : List ℕ) (w : Word) (h : Held t work 0 w) (two : wid
         records = rw (n, e) (recorded_same t work whole 0 w (λ i a b. off i) h.records);
       }
 
-pub stopped : (s : List ℕ) → (Closes s → ⊥) → (work' : List ℕ) → Folded s false work'
-stopped s n work' =
+pub stopped : {s : List ℕ} (work' : List ℕ) → (Closes s → ⊥) → Folded s false work'
+stopped {s} work' n =
     record {
       closes = λ z. absurd (not_both false z refl);
       refuses = λ z. n;
       made = λ z. absurd (not_both false z refl);
     }
 
+-- a byte that is no letter, and a letter that cannot stand there
+module _ {s work₀ work : List ℕ} {ends : Ends} {i : ℕ} (can : Foldable s work₀) (inv : Folding s work₀ work ends i)
+    (more : 0 < i) where
+  pub foreign : is_letter (get_or s (i - 1) 0) ≡ false → Folded s false work
+  foreign e = stopped work (λ c. not_both (is_letter (get_or s (i - 1) 0)) (going can inv more c).known e)
+
+  pub halted : {a : Letter} → (is_letter (get_or s (i - 1) 0) ≡ true) × (a ≡ letter (get_or s (i - 1) 0))
+      → true ≡ stops a ends (length work - ends.top) → Folded s false work
+  halted r e = stopped work (folding_stop can inv more r e)
+
 -- the words at the end of the loop
-module _ (s work₀ work : List ℕ) (first last top i : ℕ) (can : Foldable s work₀)
-    (inv : Folding s work₀ work first last top i) (end : i ≤ 0) where
+module _ {s work₀ work : List ℕ} {ends : Ends} {i : ℕ} (can : Foldable s work₀) (inv : Folding s work₀ work ends i)
+    (end : i ≤ 0) where
   at_start : i ≡ 0
   at_start = omega arith
 
-  all_words : Standing (length s) (fold_in work first last top) (words s) 0
-  all_words =
-      subst (λ (j : ℕ). Standing (length s) (fold_in work first last top) (words (drop j s)) j) at_start inv.stands
+  all_words : Standing (length s) (fold_in work ends) (words s) 0
+  all_words = subst (λ (j : ℕ). Standing (length s) (fold_in work ends) (words (drop j s)) j) at_start inv.stands
 
-  deep : length work - top ≡ 3 * length (words s)
-  deep = subst (λ (j : ℕ). length work - top ≡ 3 * length (words (drop j s))) at_start inv.deep
+  deep : length work - ends.top ≡ 3 * length (words s)
+  deep = subst (λ (j : ℕ). length work - ends.top ≡ 3 * length (words (drop j s))) at_start inv.deep
 
   spelt : spells (words s) ≡ s
   spelt =
@@ -106,29 +119,33 @@ module _ (s work₀ work : List ℕ) (first last top i : ℕ) (can : Foldable s 
   only : (c : Closes s) → words s ≡ c.word ∷ []
   only c = ap words (sym c.spelt) ∙ words_one c.word
 
-  one_width : (w : Word) → words s ≡ w ∷ [] → eqb first last ≡ eqb (width w) 2
-  unfolding fold_in first_word
+  one_width : (w : Word) → words s ≡ w ∷ [] → eqb ends.first ends.last ≡ eqb (width w) 2
+  unfolding first_word
   one_width w e =
-      first_same (length s) (fold_in work first last top) (w ∷ []) 0 (omega arith)
-      (subst (λ (ws : List Word). Standing (length s) (fold_in work first last top) ws 0) e all_words)
+      first_same (length s) (fold_in work ends) (w ∷ []) 0 (omega arith)
+      (subst (λ (ws : List Word). Standing (length s) (fold_in work ends) ws 0) e all_words)
 
-  pub folded_many : (n : ℕ) → n ≡ length work → n - top ≢ 3 → (work' : List ℕ) → Folded s false work'
-  folded_many n is h work' =
-      stopped s (λ c. h (let d = deep in let o = ap (λ (ws : List Word). length ws) (only c) in omega arith)) work'
+  -- the test of what is left
+  abbrev closing : Bool
+  closing = eqb (length work - ends.top) 3 && eqb ends.first ends.last
 
-  pub folded_wide : first ≢ last → (work' : List ℕ) → Folded s false work'
-  folded_wide h work' =
-      stopped s (λ c. h (eqb-true first last (one_width c.word (only c) ∙ eq-eqb (width c.word) 2 c.two)))
-      work'
+  pub folded_off : false ≡ closing → Folded s false work
+  folded_off h = stopped work (λ c. not_both closing (closed c) (sym h))
+    where
+      closed : Closes s → closing ≡ true
+      closed c =
+          let d = deep in
+          let o = ap (λ (ws : List Word). length ws) (only c) in
+          and_from (eqb (length work - ends.top) 3) (eqb ends.first ends.last)
+          (eq-eqb (length work - ends.top) 3 (omega arith))
+          (one_width c.word (only c) ∙ eq-eqb (width c.word) 2 c.two)
 
-  pub folded_done : (n : ℕ) → n ≡ length work → n - top ≡ 3 → first ≡ last → (work' : List ℕ)
-      → work' ≡ join_at last 0 work
-      → Folded s true work'
-  unfolding fold_in first_word
-  folded_done n is h same work' f = go (words s) refl
+  pub folded_done : {work' : List ℕ} → true ≡ closing → work' ≡ join_at ends.last 0 work → Folded s true work'
+  unfolding first_word
+  folded_done {work'} h f = go (words s) refl
     where
       made : (w : Word) → words s ≡ w ∷ [] → spell w ≡ s → width w ≡ 2
-          → Standing (length s) (fold_in work first last top) (w ∷ []) 0 → Folded s true work'
+          → Standing (length s) (fold_in work ends) (w ∷ []) 0 → Folded s true work'
       made w e letters two st =
           let sp = can.space in
           let sm = inv.same in
@@ -140,11 +157,18 @@ module _ (s work₀ work : List ℕ) (first last top i : ℕ) (can : Foldable s 
             made = λ z. rw (f, st.2) joined;
           }
 
+      one : length work - ends.top ≡ 3
+      one =
+          eqb-true (length work - ends.top) 3
+          (and_left (eqb (length work - ends.top) 3) (eqb ends.first ends.last) (sym h))
+
       go : (ws : List Word) → words s ≡ ws → Folded s true work'
-      go [] e = absurd (let d = deep in let o = ap (λ (vs : List Word). length vs) e in omega arith)
-      go (w ∷ (v ∷ ws)) e = absurd (let d = deep in let o = ap (λ (vs : List Word). length vs) e in omega arith)
+      go [] e = absurd (let d = deep in let o = ap (λ (vs : List Word). length vs) e in omega (arith, one))
+      go (w ∷ (v ∷ ws)) e =
+          absurd (let d = deep in let o = ap (λ (vs : List Word). length vs) e in omega (arith, one))
       go (w ∷ []) e =
-          let st = subst (λ (vs : List Word). Standing (length s) (fold_in work first last top) vs 0) e all_words in
+          let st = subst (λ (vs : List Word). Standing (length s) (fold_in work ends) vs 0) e all_words in
           let letters : spell w ≡ s = sym (append-nil (spell w)) ∙ sym (ap spells e) ∙ spelt in
-          let two = eqb-true (width w) 2 (sym (one_width w e) ∙ eq-eqb first last same) in
+          let same = and_right (eqb (length work - ends.top) 3) (eqb ends.first ends.last) (sym h) in
+          let two = eqb-true (width w) 2 (sym (one_width w e) ∙ same) in
           made w e letters two st

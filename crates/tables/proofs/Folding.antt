@@ -3,7 +3,7 @@
 --   Folding        the letters from i on are read, each with the words that it needs: these stand in the work space
 --   stepped        one letter more, by the laws of the five letters
 --   closing        what each letter of a string that closes has behind it
---   folding-..     the invariant, and what a step asks for
+--   begins folding_turn folding_stop    before the loop, a turn, and where it stops
 use mathlib.Core.Bool.{false, true}
 use mathlib.Core.List.{List, [], ◌++◌, ◌∷◌, append-nil}
 use mathlib.Core.Path.{◌∙◌, ◌≡◌, ap, refl, subst, sym}
@@ -19,7 +19,8 @@ use Rattle.tables.proofs.Held.{Standing, standing_low}
 use Rattle.tables.proofs.Pushes.{standing_e}
 use Rattle.tables.proofs.Splices.{standing_s}
 use Rattle.tables.proofs.Stopping.{Going, goes, never_stops}
-use Rattle.tables.specs.Fold.{Fold, Foldable, Room, fold_c, fold_e, fold_in, fold_l, fold_r, fold_s, fold_step, spliced, stops}
+use Rattle.tables.specs.declared.Ends.{Ends}
+use Rattle.tables.specs.Fold.{Fold, Foldable, fold_c, fold_e, fold_in, fold_l, fold_r, fold_s, fold_step, spliced, stops}
 use Rattle.theory.proofs.GreatestLaws.{Above, down_turn}
 use Rattle.theory.proofs.LetterLaws.{letter_new}
 use Rattle.theory.proofs.Pinches.{sound_free}
@@ -121,28 +122,29 @@ closing s z (suc j) m n c h =
       calm = λ l.
           let b = letter_new (get_or s j 0) l in
           let one : 1 ≤ length ws = subst (λ (a : Letter). Enough a ws) l enough in
-          first_same (length s) z ws (suc j) one h ∙ and_rest (eqb (get_or s j 0) (byte C)) (eqb (width (first_word ws)) 2)
-          b calm;
+          first_same (length s) z ws (suc j) one h
+          ∙ and_rest (eqb (get_or s j 0) (byte C)) (eqb (width (first_word ws)) 2) b calm;
       known = letters j (omega arith);
     })
 
 -- ---- the loop
 
-pub record Folding (s work₀ work : List ℕ) (first last top i : ℕ) : Type 0 where
+pub record Folding (s work₀ work : List ℕ) (ends : Ends) (i : ℕ) : Type 0 where
   pub at : i ≤ length s
   pub same : length work ≡ length work₀
   pub known : Above (λ q. is_letter (get_or s q 0)) (length s) i
   pub full : Full (drop i s)
-  pub within : top ≤ length work
-  pub deep : length work - top ≡ 3 * length (words (drop i s))
-  pub high : length work ≤ top + 3 * (length s - i)
-  pub first_low : first < 3 * length s
-  pub last_low : last < 3 * length s
-  pub stands : Standing (length s) (fold_in work first last top) (words (drop i s)) i
+  pub within : ends.top ≤ length work
+  pub deep : length work - ends.top ≡ 3 * length (words (drop i s))
+  pub high : length work ≤ ends.top + 3 * (length s - i)
+  pub first_low : ends.first < 3 * length s
+  pub last_low : ends.last < 3 * length s
+  pub stands : Standing (length s) (fold_in work ends) (words (drop i s)) i
 
-pub begins : (s work : List ℕ) → Foldable s work → Folding s work work 0 0 (length work) (length s)
+pub begins : {s work : List ℕ} → Foldable s work
+    → Folding s work work (record { first = 0; last = 0; top = length work }) (length s)
 unfolding words
-begins s work h =
+begins {s} {work} h =
     let n = h.some in
     let none : words (drop (length s) s) ≡ [] = rw (drop-length s) in
     record {
@@ -158,63 +160,50 @@ begins s work h =
       stands = rw (drop-length s) tt;
     }
 
-module _ (s work₀ work : List ℕ) (first last top i : ℕ) (can : Foldable s work₀)
-    (inv : Folding s work₀ work first last top i) (more : 0 < i) where
-  pub folding_room : Room (length s) (i - 1) first last top work
-  folding_room =
-      record {
-        few = can.few;
-        at = omega (arith, inv.at);
-        first_low = inv.first_low;
-        last_low = inv.last_low;
-        some = omega (arith, inv.high, inv.same, can.space);
-        within = inv.within;
-        space = omega (arith, inv.same, can.space);
-      }
+module _ {s work₀ work : List ℕ} {ends : Ends} {i : ℕ} (can : Foldable s work₀) (inv : Folding s work₀ work ends i)
+    (more : 0 < i) where
+  -- the letter at the place before i
+  abbrev b : ℕ
+  b = get_or s (i - 1) 0
 
-  pub folding_turn : (work' : List ℕ) (first' last' top' : ℕ) → length work' ≡ length work
-      → (end : ℕ) → end ≡ length work
-      → stops (letter (get_or s (i - 1) 0)) (get_or s (i - 1) 0) first last (end - top) ≡ false
-      → (n : ℕ) → n ≡ length s
-      → fold_in work' first' last' top' ≡ fold_step (letter (get_or s (i - 1) 0)) n (i - 1) (fold_in work first last top)
-      → Folding s work₀ work' first' last' top' (i - 1)
-  unfolding fold_in
-  folding_turn work' first' last' top' same end is-end on n is e₀ =
+  pub folding_turn : {a : Letter} {work' : List ℕ} {ends' : Ends} → (is_letter b ≡ true) × (a ≡ letter b)
+      → length work' ≡ length work → false ≡ stops a ends (length work - ends.top)
+      → fold_in work' ends' ≡ fold_step a (length s) (i - 1) (fold_in work ends) → Folding s work₀ work' ends' (i - 1)
+  folding_turn {a} {work'} {ends'} (known, is) same on₀ e₀ =
       let t = length s in
       let k = i - 1 in
-      let b = get_or s k 0 in
-      let a = letter b in
-      let z = fold_in work first last top in
+      let z = fold_in work ends in
       let ws = words (drop i s) in
       let sp = can.space in
       let sm = inv.same in
       let hi = inv.high in
       let at = inv.at in
       let wi = inv.within in
-      let e = e₀ ∙ ap (λ (m : ℕ). fold_step a m k z) is in
+      let e : fold_in work' ends' ≡ fold_step (letter b) t k z = rw (← is) e₀ in
+      let on : stops (letter b) ends (length work - ends.top) ≡ false = rw (← is) (sym on₀) in
       let lower : k + 1 ≡ i = omega arith in
       let sk : suc k ≡ i = omega arith in
-      let go = goes b first last (end - top) ws (omega (arith, inv.deep)) on in
+      let go = goes ends (length work - ends.top) ws inv.deep b known on in
       let enough = go.enough in
-      let before-is : words (drop k s) ≡ before a ws =
-      words_cons s k (omega arith) ∙ ap (λ (j : ℕ). before a (words (drop j s))) sk in
+      let before-is : words (drop k s) ≡ before (letter b) ws =
+      words_cons s k (omega arith) ∙ ap (λ (j : ℕ). before (letter b) (words (drop j s))) sk in
       let now : Standing t z ws (k + 1) = subst (λ (j : ℕ). Standing t z ws j) (sym lower) inv.stands in
-      let new = stepped t k z (omega arith) (omega arith) (omega arith) wi a ws enough go.calm now in
-      let t' = tops t k z (omega arith) (omega arith) (omega arith) wi a ws enough now in
-      let stands : Standing t (fold_in work' first' last' top') (words (drop k s)) k =
+      let new = stepped t k z (omega arith) (omega arith) (omega arith) wi (letter b) ws enough go.calm now in
+      let t' = tops t k z (omega arith) (omega arith) (omega arith) wi (letter b) ws enough now in
+      let stands : Standing t (fold_in work' ends') (words (drop k s)) k =
       subst (λ (y : Fold). Standing t y (words (drop k s)) k) (sym e)
-      (subst (λ (v : List Word). Standing t (fold_step a t k z) v k) (sym before-is) new) in
-      let low = standing_low t (fold_in work' first' last' top') (words (drop k s)) k
-      (rw before-is (some_before a ws enough)) stands in
+      (subst (λ (v : List Word). Standing t (fold_step (letter b) t k z) v k) (sym before-is) new) in
+      let low = standing_low t (fold_in work' ends') (words (drop k s)) k
+      (rw before-is (some_before (letter b) ws enough)) stands in
       let te = ap (λ (y : Fold). y.top) e in
-      let de = deeper t k z a ws enough (omega (arith, inv.deep)) (omega arith) in
+      let de = deeper t k z (letter b) ws enough inv.deep (omega arith) in
       let dw = ap (λ (v : List Word). length v) before-is in
       record {
         at = omega arith;
         same = same ∙ sm;
         known = down_turn (λ q. is_letter (get_or s q 0)) t i inv.known go.known;
         full = full_cons s k (omega arith) (subst (λ (j : ℕ). Full (drop j s)) (sym sk) inv.full)
-            (subst (λ (j : ℕ). Enough a (words (drop j s))) (sym sk) enough);
+            (subst (λ (j : ℕ). Enough (letter b) (words (drop j s))) (sym sk) enough);
         within = omega (arith, t'.1, te, same);
         deep = omega (arith, de, te, same, dw);
         high = omega (arith, t'.0, te, same);
@@ -223,10 +212,11 @@ module _ (s work₀ work : List ℕ) (first last top i : ℕ) (can : Foldable s 
         stands = stands;
       }
 
-  -- a string that closes goes on
-  pub folding_stop : (end : ℕ) → end ≡ length work
-      → stops (letter (get_or s (i - 1) 0)) (get_or s (i - 1) 0) first last (end - top) ≡ true → Closes s → ⊥
-  unfolding fold_in
-  folding_stop end is-end e c =
-      never_stops (get_or s (i - 1) 0) first last (end - top) (words (drop i s)) (omega (arith, inv.deep))
-      (closing s (fold_in work first last top) i more inv.at c inv.stands) e
+  -- in a string that closes a letter stands there, and the pass goes on
+  pub going : Closes s → Going b ends.first ends.last (words (drop i s))
+  going c = closing s (fold_in work ends) i more inv.at c inv.stands
+
+  pub folding_stop : {a : Letter} → (is_letter b ≡ true) × (a ≡ letter b)
+      → true ≡ stops a ends (length work - ends.top) → Closes s → ⊥
+  folding_stop {a} (known, is) e c =
+      never_stops ends (length work - ends.top) (words (drop i s)) inv.deep b (going c) (rw (← is) (sym e))

@@ -10,8 +10,6 @@ pub mod Stopping
 pub mod Folding
 pub mod Neighbours
 pub mod Folded
-pub mod Copying
-pub mod Stores
 pub mod Noted
 pub mod Filling
 pub mod Filled

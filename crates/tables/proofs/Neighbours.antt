@@ -10,7 +10,7 @@ use Rattle.theory.proofs.Chain.{Each, each_append}
 use Rattle.theory.proofs.Counting.{tris_in}
 use Rattle.theory.proofs.JoinLaws.{Both, Join, ends_root, up}
 use Rattle.theory.proofs.JoinedTables.{settled}
-use Rattle.theory.proofs.ListLaws.{entry_any}
+use Rattle.std.proofs.lemmas.List.{get_or_default}
 use Rattle.theory.proofs.Opens.{length_opens, mates, opens}
 use Rattle.theory.proofs.WordTables.{held, length_o}
 use Rattle.theory.specs.Corner.{opposite}
@@ -40,4 +40,4 @@ module _ (w : Word) (sound : Sound w) (two : width w ≡ 2) where
       let a = ends_root x w sound two in
       let e = tris_in x (size w) 0 (omega arith) (omega arith) in
       let same = settled (joins w) made (table_o w) x here there (omega arith) in
-      entry_any made x 0 x n ∙ same ∙ entry_any (table_o w) x x 0 (omega arith))
+      get_or_default made x 0 x n ∙ same ∙ get_or_default (table_o w) x x 0 (omega arith))

@@ -85,8 +85,8 @@ module _ (t k : ℕ) (work : List ℕ) (a b : Word) (fits : 4 * t ≤ length wor
   in_notes n m l =
       let w = i.within in
       let u = first_low.1 in
-      off_s (3 * t + n) 0 (λ q. omega arith) (λ q. omega arith) (λ q. omega arith) (λ q. omega arith) (λ q. omega arith)
-      (λ q. omega arith)
+      off_s (3 * t + n) 0 (λ q. omega arith) (λ q. omega arith) (λ q. omega arith) (λ q. omega arith)
+      (λ q. omega arith) (λ q. omega arith)
 
   -- the two words as they stand now
   right_held : Held t on_s (k + 1) a

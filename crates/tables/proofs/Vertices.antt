@@ -1,14 +1,14 @@
--- The second pass over the letters of a word fills in document 01's vertices (`fill_run_lem`), and of a string that closes
--- table V of its word (`fill_table`).
+-- The second pass over the letters of a word fills in document 01's vertices (`fill_run_lem`), and of a string that
+-- closes table V of its word (`fill_table`).
 use mathlib.Core.List.{List, [], ◌++◌, ◌∷◌, append_assoc, append-nil}
 use mathlib.Core.Path.{◌∙◌, ◌≡◌, ap, refl, subst, sym}
 use Prim.Native.Nat.{◌*◌, ◌+◌, ◌-◌, suc, zero, ℕ}
 use native.Mathlib.Omega.{arith}
 use lib.ListN.{drop, get_or, length, take}
 use Rattle.tables.proofs.Behind.{OnLoop, agreed, behind_c, behind_l, behind_r, behind_left, behind_right, left_resumed, tip_is_e, tip_is_l, tip_is_r, tip_is_s}
-use Rattle.tables.proofs.Filled.{at_left_lem, at_right_lem, here, mix, mix_all, mix_none, stored_mix}
+use Rattle.tables.proofs.Filled.{at_left_lem, at_right_lem, filled, here, mix, mix_all, mix_none, stored_mix}
 use Rattle.tables.proofs.Noted.{Noted}
-use Rattle.tables.specs.Fill.{Fill, after_facing, at_right, before_facing, fill_in, fill_run, fill_step, fill_v, resumed}
+use Rattle.tables.specs.Fill.{Fill, after_facing, at_right, before_facing, fill_run, fill_step, fill_v, resumed}
 use Rattle.theory.proofs.CornerLaws.{next_right, next_tip, previous_right, previous_tip}
 use Rattle.theory.proofs.HoldsWord.{holds_c}
 use Rattle.theory.proofs.Rows.{Edges, agree, edges_snoc}
@@ -34,7 +34,7 @@ module _ (vt vs₀ ot ns : List ℕ) (same : length vs₀ ≡ length vt) where
   pub fill_run_lem : (w : Word) (k nv : ℕ) (us rs : List ℕ) → OnLoop vt vs₀ ot ns same w k nv us rs → (s : List ℕ)
       → fill_run (spell w ++ s) k ns ot (now k nv)
       ≡ fill_run s (k + size w) ns ot (resumed (k + size w) ot (half (3 * (k + size w))) (nv + news w))
-  unfolding fill_run fill_step letter spell size news links fill_in
+  unfolding fill_run fill_step letter spell size news links
   fill_run_lem w_e k nv us rs h s =
       let x = after_facing ot (half (3 * k)) (3 * k + 1) in
       let tip = tip_is_e vt vs₀ ot ns same k nv us rs h in
@@ -86,7 +86,7 @@ module _ (vt vs₀ ot ns : List ℕ) (same : length vs₀ ≡ length vt) where
 -- the first triangle is a C on the gate's edge: its ends are 0 and 1, and the rest of the word stands on 1, 0, 2
 fill_c : (w : Word) → Sound (w_c w) → width (w_c w) ≡ 2 → (vs₀ ns : List ℕ) → length vs₀ ≡ 3 * size (w_c w)
     → Noted ns 0 (w_c w) → fill_v (spell (w_c w)) ns (table_o (w_c w)) vs₀ ≡ table_v (w_c w)
-unfolding spell fill_v fill_run fill_step letter width size links back resumed fill_in
+unfolding spell fill_v fill_run fill_step letter width size links back resumed
 fill_c w sound two vs₀ ns n noted =
     let vt = table_v (w_c w) in
     let ot = table_o (w_c w) in
@@ -112,7 +112,7 @@ fill_c w sound two vs₀ ns n noted =
       noted = noted;
       within = omega arith;
     } in
-    let first : fill_in vs₀ 0 1 2 ≡ here vt vs₀ ot same 0 2 = rw (ends.0, ends.1, mix_none vt vs₀ ot same) refl in
+    let first : filled vs₀ 0 1 2 ≡ here vt vs₀ ot same 0 2 = rw (ends.0, ends.1, mix_none vt vs₀ ot same) refl in
     ap (λ (z : Fill). (fill_run (spell w) 1 ns ot (at_right 0 z.new (z.new + 1) z)).vs) first
     ∙ ap (λ (z : Fill). (fill_run (spell w) 1 ns ot z).vs)
     (at_right_lem vt vs₀ ot same 0 2 2 (sym row.0.0) (omega arith) 3 A.0.0)

@@ -9,6 +9,7 @@
 use Rattle.std.specs.Prelude.{List, [], ◌∷◌, ◌*◌, ◌+◌, ℕ, get_or, set}
 use Rattle.theory.specs.Corner.{next, previous, vertex}
 use Rattle.theory.specs.Letter.{letter}
+use Rattle.tables.specs.declared.labels.Sides.{Sides}
 use Rattle.theory.specs.declared.Letter.{Letter}
 use Rattle.theory.specs.declared.Letter.TheVariants.{C, E, L, R, S}
 
@@ -27,8 +28,8 @@ pub record Fill : Type 0 where
   pub right : ℕ
   pub new : ℕ
 
-unfoldable pub fill_in : List ℕ → ℕ → ℕ → ℕ → Fill
-fill_in vs left right new = record { vs = vs; left = left; right = right; new = new }
+abbrev pub fill_in : List ℕ → Sides → Fill
+fill_in vs sides = record { vs = vs; left = sides.left; right = sides.right; new = sides.new }
 
 -- triangle k has the tip x
 abbrev pub stored : ℕ → ℕ → Fill → List ℕ
@@ -36,14 +37,15 @@ stored k x z = row k x z.left z.right z.vs
 
 -- continue at right, at left
 unfoldable pub at_right : ℕ → ℕ → ℕ → Fill → Fill
-at_right k x new z = fill_in (stored k x z) x z.right new
+at_right k x new z = record { vs = stored k x z; left = x; right = z.right; new = new }
 
 unfoldable pub at_left : ℕ → ℕ → Fill → Fill
-at_left k x z = fill_in (stored k x z) z.left x z.new
+at_left k x z = record { vs = stored k x z; left = z.left; right = x; new = z.new }
 
 -- a word is done: the next triangle stands where an S waits
 unfoldable pub resumed : ℕ → List ℕ → List ℕ → ℕ → Fill
-resumed j os vs new = fill_in vs (before_facing os vs (3 * j)) (after_facing os vs (3 * j)) new
+resumed j os vs new =
+    record { vs = vs; left = before_facing os vs (3 * j); right = after_facing os vs (3 * j); new = new }
 
 -- the tip of an S stands behind the last open side of its right branch
 unfoldable pub fill_step : Letter → ℕ → List ℕ → List ℕ → Fill → Fill
@@ -59,4 +61,4 @@ fill_run (b ∷ s) k ns os z = fill_run s (k + 1) ns os (fill_step (letter b) k 
 
 -- the first triangle has the ends 0 and 1
 unfoldable pub fill_v : List ℕ → List ℕ → List ℕ → List ℕ → List ℕ
-fill_v s ns os vs = (fill_run s 0 ns os (fill_in vs 0 1 2)).vs
+fill_v s ns os vs = (fill_run s 0 ns os (record { vs = vs; left = 0; right = 1; new = 2 })).vs

@@ -2,22 +2,22 @@
 -- at c, and the record of an S triangle k at 3t + k.
 --
 --   first last           the ends of the open sides of the word behind the letter; the entry of each of them but the
---                        first
---                        is the one before it, so that they are a list that is read from its last
+--                        first is the one before it, so that they are a list that is read from its last
 --   top                  where the stack of the words behind that one stands: the tip, first and last of each, growing
 --                        down
 --   fold_in               what stands in the work space
 --   fold_step a t k z     one letter more, at triangle k
---   Room                 room for a letter at triangle k
+--   Room k               room for a letter at triangle k: it and the ends lie in the work space, and a word fits on
+--                        the stack
 --   stops                the letter cannot stand there: words are missing, or a C stands before a word of width 2
 --   Foldable Folded      what the pass asks of a string, and what it answers and leaves
 --   Recorded t work k w  the record of each S of w, its first triangle k: the last open side of its right branch
-use Rattle.std.specs.Prelude.{Bool, ◌||◌, false, not, true, List, ◌≡◌, ◌*◌, ◌+◌, ◌-◌, ◌<◌, ◌≤◌, ℕ, eqb, ltb, get_or, length, set, take}
+use Rattle.std.specs.Prelude.{Bool, ◌||◌, false, true, List, ◌≡◌, ◌*◌, ◌+◌, ◌-◌, ◌<◌, ◌≤◌, ℕ, eqb, ltb, get_or, length, set, take}
 use Rattle.theory.proofs.Opens.{opens}
-use Rattle.theory.specs.Letter.{byte}
 use Rattle.theory.specs.Lists.{back}
 use Rattle.theory.specs.Tables.{join_at, table_o}
 use Rattle.theory.specs.Word.{Closes, Word, size, w_c, w_e, w_l, w_r, w_s, word_of}
+use Rattle.tables.specs.declared.Ends.{Ends}
 use Rattle.theory.specs.declared.Letter.{Letter}
 use Rattle.theory.specs.declared.Letter.TheVariants.{C, E, L, R, S}
 
@@ -27,8 +27,8 @@ pub record Fold : Type 0 where
   pub last : ℕ
   pub top : ℕ
 
-unfoldable pub fold_in : List ℕ → ℕ → ℕ → ℕ → Fold
-fold_in work first last top = record { work = work; first = first; last = last; top = top }
+abbrev pub fold_in : List ℕ → Ends → Fold
+fold_in work ends = record { work = work; first = ends.first; last = ends.last; top = ends.top }
 
 -- C joins its left side to the last open one, which is open no more
 unfoldable pub fold_c : ℕ → Fold → Fold
@@ -97,22 +97,21 @@ fold_step E t k z = fold_e k z
 fold_step R t k z = fold_r k z
 fold_step S t k z = fold_s t k z
 
-pub record Room (t k first last top : ℕ) (work : List ℕ) : Type 0 where
-  pub few : t ≤ 65536
-  pub at : k < t
-  pub first_low : first < 3 * t
-  pub last_low : last < 3 * t
-  pub some : 3 ≤ top
-  pub within : top ≤ length work
-  pub space : 12 * t ≤ length work
+pub record Room (k : ℕ) (ends : Ends) (work : List ℕ) : Type 0 where
+  pub few : k < 65536
+  pub at : 3 * (k + 1) < length work
+  pub first_low : ends.first < length work
+  pub last_low : ends.last < length work
+  pub some : 3 ≤ ends.top
+  pub within : ends.top ≤ length work
 
--- what keeps the byte b, of letter a, from standing before the words behind it; deep is three times their number
-unfoldable pub stops : Letter → ℕ → ℕ → ℕ → ℕ → Bool
-stops C b first last deep = ltb deep 3 || eqb first last
-stops L b first last deep = ltb deep 3
-stops E b first last deep = false
-stops R b first last deep = ltb deep 3
-stops S b first last deep = ltb deep 6 || not (eqb b (byte S))
+-- what keeps the letter a from standing before the words behind it; deep is three times their number
+unfoldable pub stops : Letter → Ends → ℕ → Bool
+stops C ends deep = ltb deep 3 || eqb ends.first ends.last
+stops L ends deep = ltb deep 3
+stops E ends deep = false
+stops R ends deep = ltb deep 3
+stops S ends deep = ltb deep 6
 
 pub record Foldable (s work : List ℕ) : Type 0 where
   pub some : 0 < length s

@@ -3,22 +3,25 @@
 // vertices.
 //
 // The open sides of a word are a list that is linked through their own entries of table O. Each letter does what its
-// definition says; that this makes the tables of a string that closes is a law of the definitions.
+// definition says; that this makes the tables of a string that closes is a law of the definitions. The corners joined,
+// the records and the stack stand in the one work space: specs/Fold, on which the promise of `fold` stands, speaks of
+// it whole.
 #![tactic(auto)]
 
-ghost use Rattle.std.specs.Prelude.{◌≡◌, ℕ, ◌+◌, ◌-◌, ◌*◌, ◌<◌, ◌≤◌, length, set, take};
-ghost use Rattle.theory.specs.Letter.{letter};
+ghost use Rattle.std.specs.Prelude.{◌≡◌, ◌&&◌, ℕ, ◌+◌, ◌-◌, ◌*◌, ◌<◌, ◌≤◌, eqb, length, set};
 ghost use Rattle.theory.specs.Tables.{join_at};
 ghost use Rattle.tables.specs.Built.{Buildable, Built};
-ghost use Rattle.tables.specs.Fold.{Foldable, Folded, Room, fold_c, fold_e, fold_in, fold_l, fold_r, fold_s, fold_step, pushed, stops};
+ghost use Rattle.tables.specs.Fold.{Foldable, Folded, Room, pushed, stops};
+ghost use Rattle.tables.specs.Fold.{fold_c, fold_e, fold_in, fold_l, fold_r, fold_s, fold_step};
 
 mod labels;
 
 use labels::fill;
-use lent::{at, letter_of, put};
+use lent::{at, put};
 use theory::Letter;
 
-// A word: the ends of its open sides, and where the stack of the words behind it stands.
+// A word: the ends of its open sides, and where the stack of the words behind it stands. That they stand within the
+// work space (`Room`) is a clause and not a field, since every letter writes the space that they are measured by.
 #[derive(Clone, Copy)]
 pub struct Ends {
     pub first: u32,
@@ -26,6 +29,7 @@ pub struct Ends {
     pub top: usize,
 }
 
+#[tactic(auto, unfolding(theory::specs::Tables::join_at))]
 fn join(work: &mut [u32], a: u32, b: u32)
     requires { (a < length work.old) × (b < length work.old) }
     ensures { work.new ≡ join_at a b work.old }
@@ -34,73 +38,76 @@ fn join(work: &mut [u32], a: u32, b: u32)
     work[b as usize] = a;
 }
 
-fn fold_c(t: usize, k: u32, first: u32, last: u32, top: usize, work: &mut [u32]) -> Ends
-    requires { Room t k first last top work.old }
-    ensures { fold_in work.new result.first result.last result.top ≡ fold_c k (fold_in work.old first last top) }
+#[tactic(auto, unfolding(crate::specs::Fold::fold_c))]
+fn fold_c(k: u32, ends: Ends, work: &mut [u32]) -> Ends
+    requires { Room k ends work.old }
+    ensures { fold_in work.new result ≡ fold_c k (fold_in work.old ends) }
 {
-    let inner = work[last as usize];
-    join(work, last, 3 * k + 2);
+    let last = work[ends.last as usize];
+    join(work, ends.last, 3 * k + 2);
     join(work, 3 * k + 1, 3 * (k + 1));
-    Ends {
-        first,
-        last: inner,
-        top,
-    }
+    Ends { last, ..ends }
 }
 
-fn fold_l(t: usize, k: u32, first: u32, last: u32, top: usize, work: &mut [u32]) -> Ends
-    requires { Room t k first last top work.old }
-    ensures { fold_in work.new result.first result.last result.top ≡ fold_l k (fold_in work.old first last top) }
+#[tactic(auto, unfolding(crate::specs::Fold::fold_l))]
+fn fold_l(k: u32, ends: Ends, work: &mut [u32]) -> Ends
+    requires { Room k ends work.old }
+    ensures { fold_in work.new result ≡ fold_l k (fold_in work.old ends) }
 {
     join(work, 3 * k + 1, 3 * (k + 1));
-    work[3 * k as usize + 2] = last;
+    work[3 * k as usize + 2] = ends.last;
     Ends {
-        first,
         last: 3 * k + 2,
-        top,
+        ..ends
     }
 }
 
-fn fold_r(t: usize, k: u32, first: u32, last: u32, top: usize, work: &mut [u32]) -> Ends
-    requires { Room t k first last top work.old }
-    ensures { fold_in work.new result.first result.last result.top ≡ fold_r k (fold_in work.old first last top) }
+#[tactic(auto, unfolding(crate::specs::Fold::fold_r))]
+fn fold_r(k: u32, ends: Ends, work: &mut [u32]) -> Ends
+    requires { Room k ends work.old }
+    ensures { fold_in work.new result ≡ fold_r k (fold_in work.old ends) }
 {
-    work[first as usize] = 3 * k + 1;
+    work[ends.first as usize] = 3 * k + 1;
     join(work, 3 * k + 2, 3 * (k + 1));
     Ends {
         first: 3 * k + 1,
-        last,
-        top,
+        ..ends
     }
 }
 
-// The word behind goes on the stack.
-fn push_word(k: u32, first: u32, last: u32, p: usize, work: &mut [u32])
-    requires { (k < 65536) × (p + 3 ≤ length work.old) }
-    ensures { work.new ≡ pushed k p (fold_in work.old first last (p + 3)) }
+// The word behind goes on the stack, which stands three numbers lower then.
+#[tactic(auto, unfolding(crate::specs::Fold::pushed))]
+fn push_word(k: u32, ends: Ends, work: &mut [u32]) -> usize
+    requires { Room k ends work.old }
+    ensures { (result ≡ ends.top - 3) × (work.new ≡ pushed k (ends.top - 3) (fold_in work.old ends)) }
 {
-    work[p] = 3 * (k + 1);
-    work[p + 1] = first;
-    work[p + 2] = last;
+    let top = ends.top - 3;
+    work[top] = 3 * (k + 1);
+    work[top + 1] = ends.first;
+    work[top + 2] = ends.last;
+    top
 }
 
-fn fold_e(t: usize, k: u32, first: u32, last: u32, top: usize, work: &mut [u32]) -> Ends
-    requires { Room t k first last top work.old }
-    ensures { fold_in work.new result.first result.last result.top ≡ fold_e k (fold_in work.old first last top) }
+#[tactic(auto, unfolding(crate::specs::Fold::pushed, crate::specs::Fold::fold_e))]
+fn fold_e(k: u32, ends: Ends, work: &mut [u32]) -> Ends
+    requires { Room k ends work.old }
+    ensures { fold_in work.new result ≡ fold_e k (fold_in work.old ends) }
 {
-    push_word(k, first, last, top - 3, work);
+    let top = push_word(k, ends, work);
     work[3 * k as usize + 2] = 3 * k + 1;
     Ends {
         first: 3 * k + 1,
         last: 3 * k + 2,
-        top: top - 3,
+        top,
     }
 }
 
 // The left branch of an S, whose tip and first open side are lent, is joined and hung behind the right branch.
+#[tactic(auto, unfolding(theory::specs::Tables::join_at))]
 fn splice(t: usize, k: u32, tip: u32, f: u32, last: u32, work: &mut [u32])
     requires { (k < 65536) × (t ≤ 65536) }
-    ensures { work.new ≡ join_at (3 * k + 1) (3 * (k + 1)) (join_at (3 * k + 2) tip (set (set work.old (3 * t + k) last) f last)) }
+    ensures { work.new
+        ≡ join_at (3 * k + 1) (3 * (k + 1)) (join_at (3 * k + 2) tip (set (set work.old (3 * t + k) last) f last)) }
 {
     put(work, 3 * t + k as usize, last);
     put(work, f as usize, last);
@@ -110,58 +117,58 @@ fn splice(t: usize, k: u32, tip: u32, f: u32, last: u32, work: &mut [u32])
     put(work, 3 * k as usize + 3, 3 * k + 1);
 }
 
-fn fold_s(t: usize, k: u32, first: u32, last: u32, top: usize, work: &mut [u32]) -> Ends
-    requires { Room t k first last top work.old }
-    ensures { fold_in work.new result.first result.last result.top ≡ fold_s t k (fold_in work.old first last top) }
+#[tactic(auto, unfolding(crate::specs::Fold::spliced, crate::specs::Fold::fold_s))]
+fn fold_s(t: usize, k: u32, ends: Ends, work: &mut [u32]) -> Ends
+    requires few { t ≤ 65536 }
+    requires room { Room k ends work.old }
+    ensures { fold_in work.new result ≡ fold_s t k (fold_in work.old ends) }
 {
-    let tip = at(work, top);
-    let f = at(work, top + 1);
-    let l = at(work, top + 2);
-    splice(t, k, tip, f, last, work);
+    let tip = at(work, ends.top);
+    let f = at(work, ends.top + 1);
+    let last = at(work, ends.top + 2);
+    splice(t, k, tip, f, ends.last, work);
     Ends {
-        first,
-        last: l,
-        top: top + 3,
+        last,
+        top: ends.top + 3,
+        ..ends
     }
 }
 
-// The letter b of triangle k.
-fn step(b: u8, t: usize, k: u32, first: u32, last: u32, top: usize, work: &mut [u32]) -> Ends
-    requires { Room t k first last top work.old }
-    ensures { fold_in work.new result.first result.last result.top ≡ fold_step (letter b) t k (fold_in work.old first last top) }
+// The letter a of triangle k; t triangles in all.
+#[tactic(auto, unfolding(crate::specs::Fold::fold_step))]
+fn step(a: Letter, t: usize, k: u32, ends: Ends, work: &mut [u32]) -> Ends
+    requires few { t ≤ 65536 }
+    requires room { Room k ends work.old }
+    ensures { fold_in work.new result ≡ fold_step a t k (fold_in work.old ends) }
 {
-    match letter_of(b) {
-        Letter::C => fold_c(t, k, first, last, top, work),
-        Letter::L => fold_l(t, k, first, last, top, work),
-        Letter::E => fold_e(t, k, first, last, top, work),
-        Letter::R => fold_r(t, k, first, last, top, work),
-        Letter::S => fold_s(t, k, first, last, top, work),
+    match a {
+        Letter::C => fold_c(k, ends, work),
+        Letter::L => fold_l(k, ends, work),
+        Letter::E => fold_e(k, ends, work),
+        Letter::R => fold_r(k, ends, work),
+        Letter::S => fold_s(t, k, ends, work),
     }
 }
 
-// The byte b cannot stand before the words behind it, of which deep counts three for each: words are missing, it is a C
-// before a word with one open side, or it is no letter.
-#[tactic(auto, using(crate::proofs::Stopping::stops_s, crate::proofs::Stopping::tests_s))]
-fn stops(b: u8, first: u32, last: u32, deep: usize) -> bool
-    ensures { result ≡ stops (letter b) b first last deep }
+// The letter a cannot stand before the words behind it, of which deep counts three for each: words are missing, or it
+// is a C before a word with one open side.
+#[tactic(auto, unfolding(crate::specs::Fold::stops))]
+fn stops(a: Letter, ends: Ends, deep: usize) -> bool
+    ensures { result ≡ stops a ends deep }
 {
-    match letter_of(b) {
-        Letter::C => {
-            if deep < 3 {
-                return true;
-            }
-            first == last
-        }
-        Letter::L => deep < 3,
+    match a {
+        Letter::C => deep < 3 || ends.first == ends.last,
+        Letter::L | Letter::R => deep < 3,
         Letter::E => false,
-        Letter::R => deep < 3,
-        Letter::S => {
-            if deep < 6 {
-                return true;
-            }
-            b != 83
-        }
+        Letter::S => deep < 6,
     }
+}
+
+// What is left closes a sphere: one word, of which deep counts three, with one open side.
+fn closes(ends: Ends, deep: usize) -> bool
+    ensures { result ≡ (eqb deep 3 && eqb ends.first ends.last) }
+{
+    deep == 3 && ends.first == ends.last
 }
 
 // Whether a string closes; then the neighbours of its triangles and the records stand in the work space.
@@ -169,43 +176,25 @@ pub fn fold(s: &[u8], work: &mut [u32]) -> bool
     requires { Foldable s.now work.old }
     ensures { Folded s.now result work.new }
 {
-    let t = s.len();
-    let end = work.len();
-    let mut first = 0;
-    let mut last = 0;
-    let mut top = end;
-    let mut i = t;
-    while 0 < i {
-        let b = s[i - 1];
-        if stops(b, first, last, end - top) {
+    let mut ends = Ends {
+        first: 0,
+        last: 0,
+        top: work.len(),
+    };
+    for k in (0..s.len()).rev() {
+        let Ok(a) = Letter::try_from(s[k]) else {
+            return false;
+        };
+        if stops(a, ends, work.len() - ends.top) {
             return false;
         }
-        let ends = step(b, t, (i - 1) as u32, first, last, top, work);
-        first = ends.first;
-        last = ends.last;
-        top = ends.top;
-        i -= 1;
+        ends = step(a, s.len(), k as u32, ends, work);
     }
-    if end - top != 3 {
+    if !closes(ends, work.len() - ends.top) {
         return false;
     }
-    if first != last {
-        return false;
-    }
-    join(work, last, 0);
+    join(work, ends.last, 0);
     true
-}
-
-// The first numbers of the work space, as many as the table has.
-fn copy(work: &[u32], os: &mut [u32])
-    requires { length os.old ≤ length work.now }
-    ensures { os.new ≡ take (length os.old) work.now }
-{
-    let mut i = 0;
-    while i < os.len() {
-        os[i] = work[i];
-        i += 1;
-    }
 }
 
 // The tables of a string that closes, from what the first pass left in the work space.
@@ -213,7 +202,7 @@ pub fn build(s: &[u8], work: &[u32], vs: &mut [u32], os: &mut [u32])
     requires { Buildable s.now work.now vs.old os.old }
     ensures { Built s.now vs.new os.new }
 {
-    copy(work, os);
-    let notes = 3 * s.len();
-    fill(s, &work[notes..], os, vs);
+    let (joined, notes) = work.split_at(3 * s.len());
+    os.copy_from_slice(joined);
+    fill(s, notes, os, vs);
 }

@@ -13,7 +13,8 @@ use lib.Dec.{eqb}
 use lib.ListN.{length}
 use borrow.Author.Tests.{eqb-true}
 use Rattle.theory.proofs.CornerLaws.{next_low, previous_low}
-use Rattle.theory.proofs.TestLaws.{not_both, or_cases}
+use Rattle.std.proofs.lemmas.Bool.{or_cases}
+use Rattle.theory.proofs.TestLaws.{not_both}
 use Rattle.theory.specs.Corner.{next, previous, triangle}
 use Rattle.theory.specs.Letter.{byte}
 use Rattle.theory.specs.Lists.{mem}

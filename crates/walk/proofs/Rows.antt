@@ -22,50 +22,61 @@ use Rattle.theory.specs.Mesh.{Reach, over}
 use Rattle.theory.specs.Walk.{Step, ◌＠◌, by_sides, corners_of, letter_at, marks, tips, walk}
 use Rattle.theory.specs.declared.Letter.{Letter}
 use Rattle.theory.specs.declared.Letter.TheVariants.{C, E, L, R, S}
+use Rattle.walk.specs.declared.Spot.{Spot}
 use Rattle.walk.proofs.TableLaws.{mark, marked_past, off_is, on_is, visit, visited_past}
-use Rattle.walk.specs.Table.{MarkedIn, Met, MetAll, Onward, SeenIn, Standing, entered, entry, on}
+use Rattle.walk.specs.Table.{MarkedIn, Met, MetAll, Last, Onward, SeenIn, Standing, Told, entered, entry, on}
+
+-- the walk at corner c, its stack's top at p
+abbrev pub spot : ℕ → ℕ → Spot
+spot c p = record { at = c; top = p }
 
 module _
     {vs os : List ℕ}
     {t v g : ℕ}
     {steps : List Step}
     {st work : List ℕ}
-    {c p : ℕ}
-    (s : Standing vs os t v g steps st work c p) where
+    {here : Spot}
+    (s : Standing vs os t v g steps st work here) where
+  abbrev c : ℕ
+  c = here.at
+
+  abbrev p : ℕ
+  p = here.top
+
   tip_below : vertex vs c < v
-  tip_below = s.mesh.below c s.here.low
+  tip_below = s.told.mesh.below c s.met.low
 
   pub tip_fits : vertex vs c < 2 * t
-  tip_fits = omega (arith, s.mesh.few, tip_below)
+  tip_fits = omega (arith, s.told.mesh.few, tip_below)
 
   -- a corner of the same triangle leads to a neighbour
   across : (d : ℕ) → d < 3 * t → triangle d ≡ triangle c → Met (opposite os) t g (opposite os d)
   across d h e = record {
-    low = s.mesh.inside d h;
-    reach = over d (subst (Reach (opposite os) (triangle g)) (sym e) s.here.reach);
+    low = s.told.mesh.inside d h;
+    reach = over d (subst (Reach (opposite os) (triangle g)) (sym e) s.met.reach);
   }
 
   pub left_met : Met (opposite os) t g (left (opposite os) c)
-  left_met = across (previous c) (previous_low t c s.here.low) (triangle_previous c)
+  left_met = across (previous c) (previous_low t c s.met.low) (triangle_previous c)
 
   pub right_met : Met (opposite os) t g (right (opposite os) c)
-  right_met = across (next c) (next_low t c s.here.low) (triangle_next c)
+  right_met = across (next c) (next_low t c s.met.low) (triangle_next c)
 
   module _ (room : 4 * t < p) (within : p ≤ length work) where
     long : length (entered work c) ≡ length work
     long = length-set work (triangle c) 1
 
     spare : t + v ≤ 3 * t
-    spare = omega (arith, s.mesh.few)
+    spare = omega (arith, s.told.mesh.few)
 
     seen_now : (a : Letter) → SeenIn t ((a ＠ c) ∷ steps) (entered work c)
-    seen_now a = visit t steps work s.visited a c s.here.low (omega arith)
+    seen_now a = visit t steps work s.told.visited a c s.met.low (omega arith)
 
     marked_now : MarkedIn vs t v g steps (entered work c)
-    marked_now = marked_past vs t v g steps work s.marked (triangle c) 1 (inl (omega (arith, s.here.low)))
+    marked_now = marked_past vs t v g steps work s.told.marked (triangle c) 1 (inl (omega (arith, s.met.low)))
 
     waiting_now : drop p (entered work c) ≡ st
-    waiting_now = drop-set-lt p work (triangle c) 1 (omega (arith, s.here.low)) ∙ s.waiting
+    waiting_now = drop-set-lt p work (triangle c) 1 (omega (arith, s.met.low)) ∙ s.waiting
 
     letter_now : (a b : Bool) → on (entered work c) (t + vertex vs c) ≡ true
         → on (entered work c) (triangle (left (opposite os) c)) ≡ a
@@ -76,93 +87,92 @@ module _
         (sym (seen_now E (left (opposite os) c) left_met.low) ∙ el)
         (sym (seen_now E (right (opposite os) c) right_met.low) ∙ er)
 
-    -- after a step that stores nothing more
-    stand : (a : Letter) (d : ℕ) → MarkedIn vs t v g ((a ＠ c) ∷ steps) (entered work c) → Met (opposite os) t g d
-        → Standing vs os t v g ((a ＠ c) ∷ steps) st (entered work c) d p
+    -- what a table tells after the step, and what stands where nothing more is stored
+    told : (a : Letter) → MarkedIn vs t v g ((a ＠ c) ∷ steps) (entered work c)
+        → Told vs os t v g ((a ＠ c) ∷ steps) (entered work c)
     unfolding corners_of
-    stand a d k h = record {
-      mesh = s.mesh;
-      here = h;
-      made = (s.here, s.made);
-      visited = seen_now a;
-      marked = k;
-      waiting = waiting_now;
-      waits = s.waits;
-    }
+    told a k = record { mesh = s.told.mesh; made = (s.met, s.told.made); visited = seen_now a; marked = k }
 
-    pub row_c : {n : ℕ} → entry work c (t + vertex vs c) ≡ 0
-        → Onward vs os t v g n steps st c C (set (entered work c) (t + vertex vs c) 1) (right (opposite os) c) p n
+    stand : (a : Letter) (d : ℕ) → MarkedIn vs t v g ((a ＠ c) ∷ steps) (entered work c) → Met (opposite os) t g d
+        → Standing vs os t v g ((a ＠ c) ∷ steps) st (entered work c) (spot d p)
+    stand a d k h = record { told = told a k; met = h; waiting = waiting_now; waits = s.waits }
+
+    pub row_c : entry work c (t + vertex vs c) ≡ 0
+        → Onward vs os t v g steps st c C (set (entered work c) (t + vertex vs c) 1) (spot (right (opposite os) c) p)
     unfolding onward corners_of
-    row_c {n} k =
+    row_c k =
         let new = letter_new (vertex vs) (opposite os) g steps c
         (sym (marked_now (vertex vs c) tip_below) ∙ off_is (entered work c) (t + vertex vs c) k) in
         record {
           lefts = st;
           stands = record {
-            mesh = s.mesh;
-            here = right_met;
-            made = (s.here, s.made);
-            visited = visited_past t ((C ＠ c) ∷ steps) (entered work c) (seen_now C) (t + vertex vs c) 1 (omega arith);
-            marked = mark vs t v g steps (entered work c) marked_now c tip_below (omega (arith, spare, long));
+            told = record {
+              mesh = s.told.mesh;
+              made = (s.met, s.told.made);
+              visited =
+                  visited_past t ((C ＠ c) ∷ steps) (entered work c) (seen_now C) (t + vertex vs c) 1 (omega arith);
+              marked = mark vs t v g steps (entered work c) marked_now c tip_below (omega (arith, spare, long));
+            };
+            met = right_met;
             waiting =
                 drop-set-lt p (entered work c) (t + vertex vs c) 1 (omega (arith, spare, tip_below)) ∙ waiting_now;
             waits = s.waits;
           };
-          goes = walk_step (vertex vs) (opposite os) g C n steps st c new;
+          goes = λ n. walk_step (vertex vs) (opposite os) g C n steps st c new;
         }
 
     module _ (k : entry work c (t + vertex vs c) ≢ 0) where
       old : on (entered work c) (t + vertex vs c) ≡ true
       old = on_is (entered work c) (t + vertex vs c) k
 
-      pub row_s : {n : ℕ} → entry work c (triangle (left (opposite os) c)) ≡ 0
+      pub row_s : entry work c (triangle (left (opposite os) c)) ≡ 0
           → entry work c (triangle (right (opposite os) c)) ≡ 0
-          → Onward vs os t v g n steps st c S (set (entered work c) (p - 1) (left (opposite os) c))
-          (right (opposite os) c) (p - 1) n
+          → Onward vs os t v g steps st c S (set (entered work c) (p - 1) (left (opposite os) c))
+          (spot (right (opposite os) c) (p - 1))
       unfolding marks tips by_sides onward corners_of
-      row_s {n} el er =
+      row_s el er =
           let l = left (opposite os) c in
           let two = letter_now false false old (off_is (entered work c) _ el) (off_is (entered work c) _ er) in
           record {
             lefts = l ∷ st;
             stands = record {
-              mesh = s.mesh;
-              here = right_met;
-              made = (s.here, s.made);
-              visited = visited_past t ((S ＠ c) ∷ steps) (entered work c) (seen_now S) (p - 1) l (omega arith);
-              marked = marked_past vs t v g steps (entered work c) marked_now (p - 1) l (inr (omega (arith, spare)));
+              told = record {
+                mesh = s.told.mesh;
+                made = (s.met, s.told.made);
+                visited = visited_past t ((S ＠ c) ∷ steps) (entered work c) (seen_now S) (p - 1) l (omega arith);
+                marked = marked_past vs t v g steps (entered work c) marked_now (p - 1) l (inr (omega (arith, spare)));
+              };
+              met = right_met;
               waiting =
                   push_set (entered work c) p l (omega arith) (omega (arith, long))
                   ∙ ap (λ (y : List ℕ). l ∷ y) waiting_now;
               waits = (left_met, s.waits);
             };
-            goes = walk_step (vertex vs) (opposite os) g S n steps st c two;
+            goes = λ n. walk_step (vertex vs) (opposite os) g S n steps st c two;
           }
 
-      pub row_r : {n : ℕ} → entry work c (triangle (left (opposite os) c)) ≡ 0
+      pub row_r : entry work c (triangle (left (opposite os) c)) ≡ 0
           → entry work c (triangle (right (opposite os) c)) ≢ 0
-          → Onward vs os t v g n steps st c R (entered work c) (left (opposite os) c) p n
+          → Onward vs os t v g steps st c R (entered work c) (spot (left (opposite os) c) p)
       unfolding marks tips by_sides onward
-      row_r {n} el er =
+      row_r el er =
+          let two = letter_now false true old (off_is (entered work c) _ el) (on_is (entered work c) _ er) in
           record {
             lefts = st;
             stands = stand R (left (opposite os) c) marked_now left_met;
-            goes =
-                walk_step (vertex vs) (opposite os) g R n steps st c
-                (letter_now false true old (off_is (entered work c) _ el) (on_is (entered work c) _ er));
+            goes = λ n. walk_step (vertex vs) (opposite os) g R n steps st c two;
           }
 
-      pub row_l : {n : ℕ} → entry work c (triangle (left (opposite os) c)) ≢ 0
+      pub row_l : entry work c (triangle (left (opposite os) c)) ≢ 0
           → entry work c (triangle (right (opposite os) c)) ≡ 0
-          → Onward vs os t v g n steps st c L (entered work c) (right (opposite os) c) p n
+          → Onward vs os t v g steps st c L (entered work c) (spot (right (opposite os) c) p)
       unfolding marks tips by_sides onward
-      row_l {n} el er =
+      row_l el er =
+          let two = letter_now true false old (on_is (entered work c) _ el) (off_is (entered work c) _ er) in
           record {
             lefts = st;
             stands = stand L (right (opposite os) c) marked_now right_met;
-            goes =
-                walk_step (vertex vs) (opposite os) g L n steps st c
-                (letter_now true false old (on_is (entered work c) _ el) (off_is (entered work c) _ er));
+            goes = λ n. walk_step (vertex vs) (opposite os) g L n steps st c two;
           }
 
       module _
@@ -172,39 +182,28 @@ module _
         unfolding by_sides
         ended = letter_now true true old (on_is (entered work c) _ el) (on_is (entered work c) _ er)
 
-        pub row_e : {n : ℕ} → p < length (entered work c)
-            → Onward vs os t v g n steps st c E (entered work c) (entry work c p) (p + 1) n
+        pub row_e : p < length (entered work c)
+            → Onward vs os t v g steps st c E (entered work c) (spot (entry work c p) (p + 1))
         unfolding marks tips onward take_left corners_of
-        row_e {n} h =
+        row_e h =
             let under = drop (suc p) (entered work c) in
             let e : st ≡ entry work c p ∷ under = sym waiting_now ∙ drop-cons (entered work c) p 0 h in
             let b : MetAll (opposite os) t g (entry work c p ∷ under) = subst (MetAll (opposite os) t g) e s.waits in
             record {
               lefts = under;
-              stands = record {
-                mesh = s.mesh;
-                here = b.0;
-                made = (s.here, s.made);
-                visited = seen_now E;
-                marked = marked_now;
-                waiting = rw (add-one p);
-                waits = b.1;
-              };
-              goes =
+              stands = record { told = told E marked_now; met = b.0; waiting = rw (add-one p); waits = b.1 };
+              goes = λ n.
                   ap (λ (y : List ℕ). walk (vertex vs) (opposite os) g (suc n) steps y c) e
                   ∙ walk_step (vertex vs) (opposite os) g E n steps (entry work c p ∷ under) c ended;
             }
 
-        pub row_end : {n : ℕ} → length (entered work c) ≤ p → Onward vs os t v g n steps st c E (entered work c) c p 0
+        pub row_end : length (entered work c) ≤ p → Last vs os t v g steps st c E (entered work c)
         unfolding marks tips onward take_left walk
-        row_end {n} h =
+        row_end h =
             let e : st ≡ [] = sym waiting_now ∙ drop_of_length-le (entered work c) h in
             record {
-              lefts = [];
-              stands =
-                  subst (λ (y : List ℕ). Standing vs os t v g ((E ＠ c) ∷ steps) y (entered work c) c p) e
-                  (stand E c marked_now s.here);
-              goes =
+              told = told E marked_now;
+              ends = λ n.
                   ap (λ (y : List ℕ). walk (vertex vs) (opposite os) g (suc n) steps y c) e
                   ∙ walk_step (vertex vs) (opposite os) g E n steps [] c ended;
             }

@@ -2,7 +2,7 @@
 -- come.
 --
 --   Spelling          the loop's invariant
---   begun turn end    before the loop, a turn, after it
+--   turn end          a turn, after it
 use mathlib.Core.List.{List, [], ◌∷◌}
 use mathlib.Core.Path.{◌∙◌, ◌≡◌, ap, sym}
 use Prim.Native.Nat.{◌%◌, ◌*◌, ◌+◌, ◌/◌, ◌<◌, ◌≤◌, ℕ}
@@ -10,7 +10,7 @@ use native.Mathlib.Numerals.{add-one}
 use native.Mathlib.Omega.{arith}
 use lib.ListN.{drop, drop_of_length-le, get_or, length, length-drop, set, take}
 use lib.Seq.{drop-cons, get_or-drop, get_or-take, length-take-le}
-use Rattle.walk.proofs.Written.{Written, begin, whole_is, write}
+use Rattle.walk.proofs.Written.{Written, whole_is, write}
 use Rattle.walk.specs.Calls.{Spelt, corners_in, letters_in}
 use Rattle.walk.specs.Table.{kept_to}
 
@@ -21,18 +21,6 @@ pub record Spelling (work : List ℕ) (t : ℕ) (letters₀ path₀ letters path
   pub said : Written (letters_in (kept_to t t work)) (letters_in (drop k (kept_to t t work))) letters₀ letters k
   pub went : Written (corners_in (kept_to t t work)) (corners_in (drop k (kept_to t t work))) path₀ path k
   pub count : k ≤ t
-
-module _ {work : List ℕ} {t : ℕ} {letters path : List ℕ} where
-  pub begun : (t ≤ 65536) × (4 * t ≤ length work) × (t ≤ length letters) × (t ≤ length path)
-      → Spelling work t letters path letters path 0
-  begun (a, b, d, e) = record {
-    few = a;
-    space = b;
-    enough = (d, e);
-    said = begin (letters_in (kept_to t t work)) letters;
-    went = begin (corners_in (kept_to t t work)) path;
-    count = omega arith;
-  }
 
 module _ {work : List ℕ} {t : ℕ} {letters₀ path₀ letters path : List ℕ} {k : ℕ}
     (i : Spelling work t letters₀ path₀ letters path k) where
@@ -54,7 +42,8 @@ module _ {work : List ℕ} {t : ℕ} {letters₀ path₀ letters path : List ℕ
   turn {x} b e =
       let seg = kept_to t t work in
       let at : get_or seg k 0 ≡ x =
-      get_or-drop (3 * t) (take (3 * t + t) work) k 0 ∙ get_or-take (3 * t + t) work (3 * t + k) 0 (omega arith) ∙ sym e in
+      get_or-drop (3 * t) (take (3 * t + t) work) k 0
+      ∙ get_or-take (3 * t + t) work (3 * t + k) 0 (omega arith) ∙ sym e in
       let next : drop k seg ≡ x ∷ drop (k + 1) seg =
       drop-cons seg k 0 (omega (arith, long)) ∙ rw (at, add-one k) in
       record {

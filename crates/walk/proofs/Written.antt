@@ -1,23 +1,19 @@
 -- A table that is written from its front: k numbers of the whole are in it, the rest is still to come, and behind them
 -- it is as it was.
 --
---   begin write whole_is    the laws of a loop that writes it
+--   write whole_is    a turn of a loop that writes it, and its end
 use mathlib.Core.List.{List, [], ◌++◌, ◌∷◌, append-nil}
-use mathlib.Core.Path.{◌∙◌, ◌≡◌, ap, refl, sym}
+use mathlib.Core.Path.{◌∙◌, ◌≡◌, ap, sym}
 use Prim.Native.Nat.{◌+◌, ◌<◌, ◌≤◌, suc, ℕ}
 use native.Mathlib.Numerals.{add-one}
 use native.Mathlib.Omega.{arith}
 use lib.ListN.{drop, length, length-set, set, take, take-append-drop}
 use lib.Seq.{append_snoc, drop-drop, drop-set-lt, length-take-le, take-suc-set}
-use Rattle.theory.specs.Answer.{whole}
 
 pub record Written (whole coming out₀ out : List ℕ) (k : ℕ) : Type 0 where
   pub same : length out ≡ length out₀
   pub front : whole ≡ take k out ++ coming
   pub behind : drop k out ≡ drop k out₀
-
-pub begin : (whole out : List ℕ) → Written whole whole out out 0
-begin whole out = record { same = refl; front = refl; behind = refl }
 
 drop_more : (l m : List ℕ) (k : ℕ) → drop k l ≡ drop k m → drop (suc k) l ≡ drop (suc k) m
 drop_more l m k e =

@@ -1,5 +1,5 @@
 -- What the walk keeps in its work table: t numbers for the triangles, v for the vertices, from 3t on the steps made,
--- and from p on the waiting lefts.
+-- and from the stack's top on the waiting lefts.
 --
 --   on work i     entry i is not 0
 --   AllOn         the first n entries are on
@@ -12,16 +12,19 @@
 --   entered       the table with the triangle of corner c visited
 --   entry         entry i of it
 --   gate_in        the table with the two ends of the gate corner's edge marked
---   Standing      the table, the corner c and the stack's top p stand for some steps and some waiting lefts
---   Onward        what a step at corner c leads to: its letter, the table after it, the next corner, the stack's top,
---                 and how many steps may still follow
-use Rattle.std.specs.Prelude.{Bool, not, true, List, [], ◌∷◌, ◌≡◌, ◌*◌, ◌+◌, ◌<◌, ◌≤◌, suc, ℕ, eqb, drop, get_or, set, take}
+--   Told          the table tells of some steps made: what they have visited and marked
+--   Standing      it tells so, and those steps lead to here, where some lefts wait on the stack
+--   Onward        the step a at corner c goes on at a further spot, with the table after it
+--   Last          it is the last
+--   Leads         the one or the other
+use Rattle.std.specs.Prelude.{Option, Some, None, Bool, not, true, List, [], ◌∷◌, ◌≡◌, ◌*◌, ◌+◌, ◌<◌, ◌≤◌, suc, ℕ, eqb, drop, get_or, set, take}
 use Rattle.theory.specs.Corner.{next, opposite, previous, triangle, vertex}
 use Rattle.theory.specs.Letter.{byte}
 use Rattle.theory.specs.Lists.{mem}
 use Rattle.theory.specs.Mesh.{Reach}
 use Rattle.theory.specs.Walk.{Step, ◌＠◌, corners_of, marks, seen, walk}
 use Rattle.theory.specs.declared.Letter.{Letter}
+use Rattle.walk.specs.declared.Spot.{Spot}
 
 abbrev pub on : List ℕ → ℕ → Bool
 on work i = not (eqb (get_or work i 0) 0)
@@ -65,26 +68,51 @@ entry work c i = get_or (entered work c) i 0
 abbrev pub gate_in : List ℕ → ℕ → ℕ → List ℕ → List ℕ
 gate_in vs t g work = set (set work (t + vertex vs (next g)) 1) (t + vertex vs (previous g)) 1
 
-pub record Standing (vs os : List ℕ) (t v g : ℕ) (steps : List Step) (st work : List ℕ) (c p : ℕ) : Type 0 where
+pub record Told (vs os : List ℕ) (t v g : ℕ) (steps : List Step) (work : List ℕ) : Type 0 where
   pub mesh : Walkable (vertex vs) (opposite os) t v g
-  pub here : Met (opposite os) t g c
   pub made : MetAll (opposite os) t g (corners_of steps)
   pub visited : SeenIn t steps work
   pub marked : MarkedIn vs t v g steps work
-  pub waiting : drop p work ≡ st
+
+pub record Standing
+    (vs os : List ℕ)
+    (t v g : ℕ)
+    (steps : List Step)
+    (st work : List ℕ)
+    (here : Spot)
+    : Type 0 where
+  pub told : Told vs os t v g steps work
+  pub met : Met (opposite os) t g here.at
+  pub waiting : drop here.top work ≡ st
   pub waits : MetAll (opposite os) t g st
 
 pub record Onward
     (vs os : List ℕ)
-    (t v g n : ℕ)
+    (t v g : ℕ)
     (steps : List Step)
     (st : List ℕ)
     (c : ℕ)
     (a : Letter)
     (work : List ℕ)
-    (at top more : ℕ)
+    (next : Spot)
     : Type 0 where
   pub lefts : List ℕ
-  pub stands : Standing vs os t v g ((a ＠ c) ∷ steps) lefts work at top
-  pub goes : walk (vertex vs) (opposite os) g (suc n) steps st c
-      ≡ (a ＠ c) ∷ walk (vertex vs) (opposite os) g more ((a ＠ c) ∷ steps) lefts at
+  pub stands : Standing vs os t v g ((a ＠ c) ∷ steps) lefts work next
+  pub goes : (n : ℕ) → walk (vertex vs) (opposite os) g (suc n) steps st c
+      ≡ (a ＠ c) ∷ walk (vertex vs) (opposite os) g n ((a ＠ c) ∷ steps) lefts next.at
+
+pub record Last
+    (vs os : List ℕ)
+    (t v g : ℕ)
+    (steps : List Step)
+    (st : List ℕ)
+    (c : ℕ)
+    (a : Letter)
+    (work : List ℕ)
+    : Type 0 where
+  pub told : Told vs os t v g ((a ＠ c) ∷ steps) work
+  pub ends : (n : ℕ) → walk (vertex vs) (opposite os) g (suc n) steps st c ≡ (a ＠ c) ∷ []
+
+abbrev pub Leads : List ℕ → List ℕ → ℕ → ℕ → ℕ → List Step → List ℕ → ℕ → Letter → List ℕ → Option Spot → Type 0
+Leads vs os t v g steps st c a work (Some next) = Onward vs os t v g steps st c a work next
+Leads vs os t v g steps st c a work None = Last vs os t v g steps st c a work

@@ -1,24 +1,15 @@
-use lib.ListN.{get_or, length}
+-- `first_foreign` meets its contract: the closure says whether a byte is no letter, and `position` finds the first.
+use mathlib.Core.Path.{◌≡◌}
+use mathlib.Core.Bool.{false, true}
 use borrow.Author.Rules.{rules}
-use Rattle.judge.proofs.Forward.{no_letter, ours}
-use Rattle.theory.proofs.LeastLaws.{scan_end, scan_stop, scan_turn}
+use borrow.Author.Tests.{tests}
+use Rattle.std.proofs.lemmas.Iterator.{IsFirst-from_position, YieldsList-from_slice}
+use Rattle.judge.proofs.Forward.{first_place}
 use Rattle.theory.specs.Letter.{is_letter}
 use Rattle.judge.proofs.first_foreign.Goals as goal
 
-pub returns-then-byte_of-s : goal.returns-then-byte_of-s
-returns-then-byte_of-s c =
-    let s = c.args.s.now in
-    let bad = no_letter _ _ _ c.byte_of.ensures c.letter_of.ensures c.if-byte_of-s.true in
-    scan_stop (λ j. is_letter (get_or s j 0)) (length s) c.loop-i.i c.loop-i.invariant.1 (search rules) bad
-
-pub loop-i-preserved : goal.loop-i-preserved
-loop-i-preserved c =
-    let s = c.args.s.now in
-    let good = ours _ _ _ c.byte_of.ensures c.letter_of.ensures c.if-byte_of-s.false in
-    (search rules, scan_turn (λ j. is_letter (get_or s j 0)) 0 c.loop-i.i c.loop-i.invariant.1 good)
-
 pub returns : goal.returns
 returns c =
-    let s = c.args.s.now in
-    let inv = c.loop-i.invariant in
-    scan_end (λ j. is_letter (get_or s j 0)) (length s) c.loop-i.i inv.1 inv.0 c.loop-i-test.false
+    first_place is_letter c.args.s.now _
+    (IsFirst-from_position _ _ _ (λ b. is_letter b ≡ false) (λ b. is_letter b ≡ true) c.position.ensures.ran
+    (YieldsList-from_slice c.args.s.now cc) (λ x q k. search (rules, tests)) (λ x q k. search (rules, tests)))

@@ -1,17 +1,21 @@
-use Rattle.walk.proofs.Tracing.{end, start, steppable, turn}
+use Rattle.std.proofs.Common.{arith, rules}
+use Rattle.walk.proofs.Tracing.{at_fits, end, keep_fits, start, steppable, stop, turn}
 use Rattle.walk.proofs.trace.Goals as goal
 
-pub loop-n-init : goal.loop-n-init
-loop-n-init c =
-    start c.requires c.wide-c.ensures c.wide.ensures
-    c.clear_front.ensures c.mark_gate.ensures
+pub loop-k-init : goal.loop-k-init
+loop-k-init c = search (rules, start)
 
-pub step-s-requires : goal.step-s-requires
-step-s-requires c = steppable c.loop-n.invariant c.loop-n-test.true
+pub step-letter-requires : goal.step-letter-requires
+step-letter-requires c = search (rules, steppable)
 
-pub loop-n-preserved : goal.loop-n-preserved
-loop-n-preserved c =
-    turn c.loop-n.invariant c.loop-n-test.true c.step-s.auto.work c.step-s.ensures c.keep.ensures
+pub keep-requires : goal.keep-requires
+keep-requires c = grind (arith, at_fits, keep_fits)
 
-pub returns : goal.returns
-returns c = end c.loop-n.invariant c.loop-n-test.false
+pub loop-k-preserved : goal.loop-k-preserved
+loop-k-preserved c = search (rules, turn)
+
+pub returns-after-loop-k : goal.returns-after-loop-k
+returns-after-loop-k c = search (rules, end)
+
+pub returns-in_default : goal.returns-in_default
+returns-in_default c = search (rules, stop)

@@ -1,13 +1,12 @@
+use Rattle.std.proofs.Common.{rules}
 use Rattle.tables.proofs.Filling.{filling_end, filling_start, filling_turn}
 use Rattle.tables.proofs.labels.fill.Goals as goal
 
 pub loop-k-init : goal.loop-k-init
-loop-k-init c = filling_start _ _ _ _
+loop-k-init c = search (rules, filling_start)
 
 pub loop-k-preserved : goal.loop-k-preserved
-loop-k-preserved c =
-    let kept = c.turn-sides.auto.vs in
-    filling_turn _ _ _ _ _ _ _ _ _ c.loop-k.invariant c.loop-k-test.true _ _ _ _ kept c.turn-sides.ensures
+loop-k-preserved c = search (rules, filling_turn)
 
 pub returns : goal.returns
-returns c = filling_end _ _ _ _ _ _ _ _ _ c.loop-k.invariant c.loop-k-test.false
+returns c = search (rules, filling_end)
