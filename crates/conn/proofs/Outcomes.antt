@@ -5,7 +5,7 @@
 --   writes_kept writes_rest      the same for write_string
 --   read_room write_room         what the checks 1 and 2 leave for the inner parts
 --   letters_kept letters_made    the inner part of read_string: a refusal, and the tables built
---   walk_kept walk_made          the inner part of write_string
+--   walk_kept walk_made          the inner part of write_string; walk_left: the same of what is left in the outputs
 use mathlib.Core.Bool.{Bool, ◌&&◌, true}
 use mathlib.Core.List.{List, ◌++◌}
 use mathlib.Core.Logic.{◌≢◌}
@@ -29,7 +29,7 @@ use Rattle.theory.specs.Mesh.{mesh_answer, mesh_rungs, shape_ok}
 use Rattle.theory.specs.Tables.{table_o, table_v}
 use Rattle.theory.specs.Walk.{corners_of, letters_of, mesh_walk, walk}
 use Rattle.theory.specs.Word.{Closes, word_of}
-use Rattle.theory.specs.declared.Answer.{Answer}
+use Rattle.theory.specs.Answer.{Answer}
 use Rattle.walk.proofs.Made.{corners_codes, letters_codes}
 use Rattle.walk.specs.Calls.{Spelt, corners_in, letters_in}
 
@@ -186,12 +186,11 @@ module _ {vs os letters walk work : List ℕ} {v g : ℕ} {a : Answer} where
       }
 
 pub write_room :
-    {vs os letters walk work : List ℕ} → shape_ok vs os ≡ true → write_fits vs letters walk work ≡ true
-    → WriteRoom vs os letters walk work
-write_room {vs} {os} {letters} {walk} {work} ok fits =
+    {vs letters walk work : List ℕ} → write_fits vs letters walk work ≡ true → WriteRoom vs letters walk work
+write_room {vs} {letters} {walk} {work} fits =
     let t = length vs / 3 in
     let r = all_enough t (length letters) t (length walk) (12 * t) (length work) fits in
-    record { shape = ok; string = r.0; table = r.1; room = r.2 }
+    record { string = r.0; table = r.1; room = r.2 }
 
 module _ {vs os letters walk work work' : List ℕ} {v g : ℕ} {a : Answer} where
   pub walk_kept :
@@ -222,3 +221,9 @@ module _ {vs os letters walk work work' : List ℕ} {v g : ℕ} {a : Answer} whe
         table = r.went ∙ ap (λ (y : List ℕ). y ++ drop (length y) walk) cs ∙ sym (filled_done a (corners_of q) walk h);
         space = z;
       }
+
+  pub walk_left :
+      {letters₁ walk₁ letters₂ walk₂ : List ℕ} → letters₂ ≡ letters₁ → walk₂ ≡ walk₁
+      → WriteLetters vs os v g letters walk work a letters₁ walk₁ work'
+      → WriteLetters vs os v g letters walk work a letters₂ walk₂ work'
+  walk_left e f r = record { answer = r.answer; string = e ∙ r.string; table = f ∙ r.table; space = r.space }

@@ -2,15 +2,15 @@
 --
 --   ReadRoom WriteRoom         the sizes fit
 --   ReadLetters WriteLetters   the answer of the later checks, the outputs, and the work space all zero
-use Rattle.std.specs.Prelude.{true, List, ◌≡◌, ◌*◌, ◌/◌, ◌≤◌, ℕ, length, replicate}
+use Rattle.std.specs.Prelude.{List, ◌≡◌, ◌*◌, ◌/◌, ◌≤◌, ℕ, length, replicate}
 use Rattle.theory.specs.Answer.{done, first_broken}
 use Rattle.theory.specs.Calls.{filled}
 use Rattle.theory.specs.Judge.{letter_answer}
-use Rattle.theory.specs.Mesh.{mesh_rungs, shape_ok}
+use Rattle.theory.specs.Mesh.{mesh_rungs}
 use Rattle.theory.specs.Tables.{table_o, table_v}
 use Rattle.theory.specs.Walk.{corners_of, letters_of, mesh_walk}
 use Rattle.theory.specs.Word.{word_of}
-use Rattle.theory.specs.declared.Answer.{Answer}
+use Rattle.theory.specs.Answer.{Answer}
 
 pub record ReadRoom (s vs os work : List ℕ) : Type 0 where
   pub some : 2 ≤ length s
@@ -25,8 +25,7 @@ pub record ReadLetters (s vs os work : List ℕ) (a : Answer) (vs' os' work' : L
   pub neighbours : os' ≡ filled a (table_o (word_of s)) os
   pub space : work' ≡ replicate (length work) 0
 
-pub record WriteRoom (vs os letters walk work : List ℕ) : Type 0 where
-  pub shape : shape_ok vs os ≡ true
+pub record WriteRoom (vs letters walk work : List ℕ) : Type 0 where
   pub string : length vs / 3 ≤ length letters
   pub table : length vs / 3 ≤ length walk
   pub room : 12 * (length vs / 3) ≤ length work

@@ -18,7 +18,7 @@ use Rattle.theory.proofs.WholeRun.{length_letters}
 use Rattle.theory.specs.Answer.{done, first_broken}
 use Rattle.theory.specs.Mesh.{Accepted, mesh_rungs, shape_ok}
 use Rattle.theory.specs.Walk.{mesh_walk}
-use Rattle.theory.specs.declared.Answer.{Answer}
+use Rattle.theory.specs.Answer.{Answer}
 use Rattle.walk.specs.Calls.{Traced}
 use Rattle.walk.specs.Table.{AllOn, kept_to}
 
@@ -33,9 +33,9 @@ module _ {vs os : List ℕ} {v g : ℕ} {work : List ℕ} where
       sym (length_letters (mesh_walk vs os g)) ∙ letters_length a in
       ap (λ (k : ℕ). kept_to (length vs / 3) k work) (sym n) ∙ w.kept
 
-  pub kept_walk : {r : Bool} (y : ℕ) → Swept vs os v g → Traced vs os v g work → y ≡ v
-      → Says (AllOn (length vs / 3 + y) work) r → Walks r vs os v g work
-  kept_walk {r} y h w e s' =
+  pub kept_walk : {r : Bool} (t : ℕ) → t ≡ length vs / 3 → Swept vs os v g → Traced vs os v g work
+      → Says (AllOn (t + v) work) r → Walks r vs os v g work
+  kept_walk {r} t e h w s' =
       let s : Says (AllOn (length vs / 3 + v) work) r = rw e at s' in
       let says = says_same (swept_accepted h w) (λ a. w.whole a.sphere) s in
       record { says = says; keeps = λ e. all_kept w (said_yes says e) }

@@ -5,13 +5,12 @@
 --   swept_walkable    such tables can be walked
 --   swept_accepted    where the walk turns all on, they are an accepted mesh
 --   accepted_sound    an accepted mesh passes the sweep
-use mathlib.Core.Bool.{Bool, false, not, true}
+use mathlib.Core.Bool.{Bool, true}
 use mathlib.Core.List.{List}
 use mathlib.Core.Path.{◌∙◌, ◌≡◌, ap, sym}
 use Prim.Native.Nat.{◌*◌, ◌+◌, ◌/◌, ◌<◌, ◌≤◌, ℕ}
 use native.Mathlib.Omega.{arith}
 use lib.ListN.{length}
-use borrow.Author.Tests.{not-false}
 use Rattle.sweep.proofs.Corners.{apart_at_lem, below_at_lem, faces_at, moves_at, surface}
 use Rattle.sweep.proofs.Saying.{said_yes}
 use Rattle.sweep.specs.Sound.{FacesAt, Says, Sound, SoundAt}
@@ -29,11 +28,10 @@ pub record Swept (vs os : List ℕ) (v g : ℕ) : Type 0 where
   pub euler : length vs / 3 + 4 ≡ 2 * v
   pub sound : Sound vs os v (length vs / 3)
 
--- x and y being the gate and the count as they were compared
-pub swept : {vs os : List ℕ} {v g x y : ℕ} {r : Bool} → shape_ok vs os ≡ true → x ≡ g → x < length vs → y ≡ v
-    → length vs / 3 + 4 ≡ 2 * y → Says (Sound vs os v (length vs / 3)) r → not r ≡ false → Swept vs os v g
-swept {r = r} shape ex lx ey ly s e =
-    record { shape = shape; gate = omega arith; euler = omega arith; sound = said_yes s (not-false r e) }
+pub swept : {vs os : List ℕ} {v g t : ℕ} {r : Bool} → shape_ok vs os ≡ true → t ≡ length vs / 3 → g < length vs
+    → t + 4 ≡ 2 * v → Says (Sound vs os v (length vs / 3)) r → r ≡ true → Swept vs os v g
+swept shape count gate euler s e =
+    record { shape = shape; gate = gate; euler = rw (← count) euler; sound = said_yes s e }
 
 module _ {vs os : List ℕ} {v g : ℕ} (h : Swept vs os v g) where
   abbrev t : ℕ

@@ -7,7 +7,7 @@ use Rattle.sweep.specs.Sound.{Says}
 use Rattle.theory.specs.Answer.{done, first_broken}
 use Rattle.theory.specs.Mesh.{Accepted, mesh_rungs}
 use Rattle.theory.specs.Walk.{mesh_walk}
-use Rattle.theory.specs.declared.Answer.{Answer}
+use Rattle.theory.specs.Answer.{Answer}
 use Rattle.walk.specs.Table.{codes, kept_to}
 
 -- all steps of the walk are kept

@@ -2,20 +2,15 @@
 -- from the other side at the opposite corner.
 --
 --   Says P r     r is the answer to P
---   Even         both tables are of one length, a multiple of 3
 --   FacesAt      the opposite of c faces back, and the vertex before it is a
 --   SoundAt      rules 9 to 12 at triangle k
 --   Sound        at the first n triangles
-use Rattle.std.specs.Prelude.{Bool, false, true, List, ◌≢◌, ◌≡◌, ◌%◌, ◌*◌, ◌+◌, ◌<◌, ℕ, length}
+use Rattle.std.specs.Prelude.{Bool, false, true, List, ◌≢◌, ◌≡◌, ◌*◌, ◌+◌, ◌<◌, ℕ, length}
 use Rattle.theory.specs.Corner.{opposite, previous, vertex}
 
 pub data Says (P : Type 0) : Bool → Type 0 where
   holds : P → Says P true
   fails : (P → ⊥) → Says P false
-
-pub record Even (vs os : List ℕ) : Type 0 where
-  pub same : length vs ≡ length os
-  pub thirds : length vs % 3 ≡ 0
 
 pub record FacesAt (vs os : List ℕ) (c a : ℕ) : Type 0 where
   pub inside : opposite os c < length os

@@ -3,82 +3,59 @@
 // Covered). Only where it is refused the rules are judged one by one, to name the number and the place.
 #![tactic(auto)]
 
-ghost use Rattle.std.specs.Prelude.{◌≡◌, true, ◌+◌, ◌*◌, ◌/◌, ◌<◌, ◌≤◌, length};
-ghost use Rattle.theory.specs.Mesh.{shape_ok};
+ghost use Rattle.std.specs.Prelude.{◌+◌, ◌*◌, ◌/◌, ◌<◌, ◌≤◌, length};
+ghost use Rattle.theory.specs.Answer.{answer};
 ghost use Rattle.walk.specs.Table.{AllOn};
-ghost use Rattle.sweep.specs.Sound.{Says, Even, FacesAt, SoundAt, Sound};
+ghost use Rattle.sweep.specs.Sound.{Says, FacesAt, SoundAt, Sound};
 ghost use Rattle.sweep.specs.Judged.{Walks, Judges};
 
 use corner::previous_of;
-use lent::{accept, wide};
+use lent::Tables;
 use mesh::judge_mesh;
-use theory::Answer;
+use theory::{Counts, Refusal};
 use walk::trace;
 
 // Rules 10 and 11 at corner c: its opposite faces back, and the corner before that one has the vertex a.
-fn faces_at(vs: &[u32], os: &[u32], c: usize, a: u32) -> bool
-    requires { Even vs.now os.now × (c < length os.now) }
-    ensures { Says (FacesAt vs.now os.now c a) result }
+fn faces_at(tables: &Tables, c: usize, a: u32) -> bool
+    requires { c < length tables.now.os.now }
+    ensures { Says (FacesAt tables.now.vs.now tables.now.os.now c a) result }
 {
-    let d = wide(os[c]);
+    let os = tables.os;
+    let d = os[c] as usize;
     if os.len() <= d {
         return false;
     }
-    if wide(os[d]) != c {
+    if os[d] as usize != c {
         return false;
     }
-    vs[previous_of(d)] == a
+    tables.vs[previous_of(d)] == a
 }
 
 // Rules 9 to 12 at triangle k.
-fn sound_at(vs: &[u32], os: &[u32], v: u32, k: usize) -> bool
-    requires { Even vs.now os.now × (k < length vs.now / 3) }
-    ensures { Says (SoundAt vs.now os.now v k) result }
+fn sound_at(tables: &Tables, v: u32, k: usize) -> bool
+    requires { k < length tables.now.vs.now / 3 }
+    ensures { Says (SoundAt tables.now.vs.now tables.now.os.now v k) result }
 {
-    let a = vs[3 * k];
-    let b = vs[3 * k + 1];
-    let d = vs[3 * k + 2];
-    if v <= a {
+    let a = tables.vs[3 * k];
+    let b = tables.vs[3 * k + 1];
+    let d = tables.vs[3 * k + 2];
+    if v <= a || v <= b || v <= d || a == b || b == d || d == a {
         return false;
     }
-    if v <= b {
+    if !faces_at(tables, 3 * k, b) {
         return false;
     }
-    if v <= d {
+    if !faces_at(tables, 3 * k + 1, d) {
         return false;
     }
-    if a == b {
-        return false;
-    }
-    if b == d {
-        return false;
-    }
-    if d == a {
-        return false;
-    }
-    if !faces_at(vs, os, 3 * k, b) {
-        return false;
-    }
-    if !faces_at(vs, os, 3 * k + 1, d) {
-        return false;
-    }
-    faces_at(vs, os, 3 * k + 2, a)
+    faces_at(tables, 3 * k + 2, a)
 }
 
 // Rules 9 to 12 at every triangle.
-fn sound(vs: &[u32], os: &[u32], v: u32) -> bool
-    requires { Even vs.now os.now }
-    ensures { Says (Sound vs.now os.now v (length vs.now / 3)) result }
+fn sound(tables: &Tables, v: u32) -> bool
+    ensures { Says (Sound tables.now.vs.now tables.now.os.now v (length tables.now.vs.now / 3)) result }
 {
-    let t = vs.len() / 3;
-    let mut k = 0;
-    while k < t {
-        if !sound_at(vs, os, v, k) {
-            return false;
-        }
-        k += 1;
-    }
-    true
+    (0..tables.count()).all(|k| sound_at(tables, v, k))
 }
 
 // The first n numbers of work are not 0.
@@ -86,42 +63,38 @@ fn all_on(work: &[u32], n: usize) -> bool
     requires { n ≤ length work.now }
     ensures { Says (AllOn n work.now) result }
 {
-    let mut i = 0;
-    while i < n {
-        if work[i] == 0 {
-            return false;
-        }
-        i += 1;
-    }
-    true
+    work[..n].iter().all(|&x| x != 0)
 }
 
-// Whether tables of a right shape are an accepted mesh; then its walk is kept in work.
-fn walks(vs: &[u32], os: &[u32], v: u32, g: u32, work: &mut [u32]) -> bool
-    requires { (shape_ok vs.now os.now ≡ true) × (12 * (length vs.now / 3) ≤ length work.old) }
-    ensures { Walks result vs.now os.now v g work.new }
+// Whether tables are an accepted mesh; then its walk is kept in work.
+fn walks(tables: &Tables, v: u32, g: u32, work: &mut [u32]) -> bool
+    requires { 12 * (length tables.now.vs.now / 3) ≤ length work.old }
+    ensures { Walks result tables.now.vs.now tables.now.os.now v g work.new }
 {
-    let t = vs.len() / 3;
-    if vs.len() <= wide(g) {
+    let t = tables.count();
+    if tables.vs.len() <= g as usize {
         return false;
     }
-    if t + 4 != 2 * wide(v) {
+    if t + 4 != 2 * (v as usize) {
         return false;
     }
-    if !sound(vs, os, v) {
+    if !sound(tables, v) {
         return false;
     }
-    trace(vs, os, v, g, work);
-    all_on(work, t + wide(v))
+    trace(tables.vs, tables.os, v, g, work);
+    all_on(work, t + v as usize)
 }
 
 // Numbers 8 to 15 of tables of a right shape, or done with the walk kept in work.
-pub fn judge(vs: &[u32], os: &[u32], v: u32, g: u32, work: &mut [u32]) -> Answer
-    requires { (shape_ok vs.now os.now ≡ true) × (12 * (length vs.now / 3) ≤ length work.old) }
-    ensures { Judges vs.now os.now v g result work.new }
+pub fn judge(tables: &Tables, v: u32, g: u32, work: &mut [u32]) -> Result<Counts, Refusal>
+    requires { 12 * (length tables.now.vs.now / 3) ≤ length work.old }
+    ensures { Judges tables.now.vs.now tables.now.os.now v g (answer result) work.new }
 {
-    if walks(vs, os, v, g, work) {
-        return accept((vs.len() / 3) as u32, v);
+    if walks(tables, v, g, work) {
+        return Ok(Counts {
+            t: tables.count() as u32,
+            v,
+        });
     }
-    judge_mesh(vs, os, v, g, work)
+    judge_mesh(tables, v, g, work)
 }

@@ -16,7 +16,7 @@ returns-then-not-fold c =
 pub returns : goal.returns
 returns c =
     let lent = c.requires in
-    letters_made (c.fold.ensures.closes c.if-not-fold.false) c.accept.ensures
+    letters_made (c.fold.ensures.closes c.if-not-fold.false) c.counts.ensures
     c.build.ensures
     (c.build.auto.vs ∙ length-take-le _ _ lent.vertices)
     (c.build.auto.os ∙ length-take-le _ _ lent.neighbours)

@@ -1,9 +1,14 @@
-use Rattle.sweep.proofs.Marks.{one_off, up_to}
-use Rattle.sweep.specs.Sound.{fails, holds}
+-- `all_on` meets its contract: every entry is on, or the one where `all` stopped is off.
+use Rattle.std.proofs.Common.{rules, tests}
+use mathlib.Core.Logic.{◌≢◌}
+use mathlib.Core.Path.{◌≡◌}
+use lib.ListN.{take}
+use Rattle.std.proofs.lemmas.Iterator.{YieldsList-from_slice, cases_from_all}
+use Rattle.sweep.proofs.Marks.{all_marked}
 use Rattle.sweep.proofs.all_on.Goals as goal
 
-pub returns-then-work-i-eq0 : goal.returns-then-work-i-eq0
-returns-then-work-i-eq0 c = fails (λ h. one_off _ c.loop-i-test.true c.if-work-i-eq0.true h)
-
 pub returns : goal.returns
-returns c = holds (up_to c.loop-i.invariant.1 c.loop-i-test.false)
+returns c =
+    all_marked c.args.work.now c.args.n _ c.requires
+    (cases_from_all _ _ _ (λ x. x ≢ 0) (λ x. x ≡ 0) c.all.ensures.ran
+    (YieldsList-from_slice (take c.args.n c.args.work.now) (search rules)) (λ x q k. search (rules, tests)) (λ x q k. search (rules, tests)))

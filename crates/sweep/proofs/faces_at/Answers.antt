@@ -1,30 +1,23 @@
--- `faces_at` meets its contract, branch by branch.
+-- `faces_at` meets its contract: the opposite is no corner, or faces elsewhere, or the vertex before it decides.
+use mathlib.Core.Path.{refl}
 use borrow.Author.Rules.{rules}
 use Rattle.sweep.proofs.Facing.{before_in, faces_ends, faces_off, faces_out}
 use Rattle.sweep.proofs.faces_at.Goals as goal
 
 pub returns-then-os-d : goal.returns-then-os-d
-returns-then-os-d c =
-    let a = c.args in
-    faces_out a.vs.now a.os.now a.c a.a _ c.requires.1 c.wide-d.ensures c.if-os-d.true
+returns-then-os-d c = faces_out _ _ _ _ _ c.requires refl c.if-os-d.true
 
-pub returns-then-wide-c : goal.returns-then-wide-c
-returns-then-wide-c c =
-    let a = c.args in
-    faces_off a.vs.now a.os.now a.c a.a _ c.requires.1 c.wide-d.ensures c.if-os-d.false _
-    c.wide.ensures c.if-wide-c.true
+pub returns-then-os-d-2 : goal.returns-then-os-d-2
+returns-then-os-d-2 c = faces_off _ _ _ _ _ c.requires refl c.if-os-d.false _ refl c.if-os-d-2.true
 
-pub offset_bounds-vs-previous_of : goal.offset_bounds-vs-previous_of
-offset_bounds-vs-previous_of c =
-    let q = before_in c.requires.0 _ _ c.if-os-d.false c.previous_of.ensures in
+pub offset_bounds-tables-previous_of : goal.offset_bounds-tables-previous_of
+offset_bounds-tables-previous_of c =
+    let q = before_in _ _ c.args.tables.now.shape _ _ c.if-os-d.false c.previous_of.ensures in
     search rules
 
-pub bounds-vs-previous_of : goal.bounds-vs-previous_of
-bounds-vs-previous_of c =
-    before_in c.requires.0 _ _ c.if-os-d.false c.previous_of.ensures
+pub bounds-tables-previous_of : goal.bounds-tables-previous_of
+bounds-tables-previous_of c = before_in _ _ c.args.tables.now.shape _ _ c.if-os-d.false c.previous_of.ensures
 
 pub returns : goal.returns
 returns c =
-    let a = c.args in
-    faces_ends a.vs.now a.os.now a.c a.a _ c.requires.1 c.wide-d.ensures c.if-os-d.false _
-    c.wide.ensures c.if-wide-c.false _ c.previous_of.ensures
+    faces_ends _ _ _ _ _ c.requires refl c.if-os-d.false _ refl c.if-os-d-2.false _ c.previous_of.ensures

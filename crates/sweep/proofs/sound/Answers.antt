@@ -1,19 +1,16 @@
-use native.Mathlib.Omega.{arith}
-use Rattle.sweep.proofs.Facing.{one_more, up_to}
-use Rattle.sweep.proofs.Saying.{said_no, said_yes}
-use Rattle.sweep.specs.Sound.{fails, holds}
+-- `sound` meets its contract: every triangle is sound, or the one where `all` stopped is not.
+use mathlib.Core.Path.{refl}
+use Rattle.std.proofs.Common.{rules}
+use Rattle.std.proofs.lemmas.Iterator.{YieldsList-from_range, cases_from_all}
+use Rattle.sweep.proofs.Facing.{all_sound}
+use Rattle.sweep.proofs.Saying.{no, yes}
+use Rattle.sweep.specs.Sound.{SoundAt}
 use Rattle.sweep.proofs.sound.Goals as goal
 
-pub returns-then-not-sound_at : goal.returns-then-not-sound_at
-returns-then-not-sound_at c =
-    fails (λ h. said_no c.sound_at.ensures c.if-not-sound_at.true (h.at _ c.loop-k-test.true))
-
-pub loop-k-preserved : goal.loop-k-preserved
-loop-k-preserved c = (
-  omega (arith, c.loop-k-test.true),
-  one_more c.loop-k.invariant.1
-      (said_yes c.sound_at.ensures c.if-not-sound_at.false),
-)
-
 pub returns : goal.returns
-returns c = holds (up_to c.loop-k.invariant.1 c.loop-k-test.false)
+returns c =
+    let vs = c.args.tables.now.vs.now in
+    let os = c.args.tables.now.os.now in
+    all_sound vs os _ _ _
+    (cases_from_all _ _ _ (λ k. SoundAt vs os c.args.v k) (λ k. SoundAt vs os c.args.v k → ⊥) c.all.ensures.ran
+    (YieldsList-from_range 0 _ _ refl (search rules)) (λ x q k. search (rules, yes)) (λ x q k. search (rules, no)))

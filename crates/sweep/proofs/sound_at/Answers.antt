@@ -1,26 +1,29 @@
 -- `sound_at` meets its contract: a test that is failed is a part of the rules that fails.
 use native.Mathlib.Omega.{arith}
+use Rattle.std.proofs.lemmas.Grind.{common_steps}
 use Rattle.sweep.proofs.Saying.{said_no, said_yes, says_same}
 use Rattle.sweep.specs.Sound.{fails}
+use Rattle.theory.proofs.MeshLaws.{shape_of}
 use Rattle.sweep.proofs.sound_at.Goals as goal
 
 pub returns-then-v-a : goal.returns-then-v-a
-returns-then-v-a c = fails (λ s. let b = s.below.0 in omega (arith, c.if-v-a.true))
+returns-then-v-a c =
+    fails (λ s.
+    let below = s.below in
+    let first = s.first in
+    let second = s.second in
+    let third = s.third in
+    let e = c.then-v-a.either in
+    grind (arith, common_steps))
 
-pub returns-then-v-b : goal.returns-then-v-b
-returns-then-v-b c = fails (λ s. let b = s.below.1 in omega (arith, c.if-v-b.true))
+pub faces_at-requires : goal.faces_at-requires
+faces_at-requires c = omega (arith, shape_of _ _ c.args.tables.now.shape)
 
-pub returns-then-v-d : goal.returns-then-v-d
-returns-then-v-d c = fails (λ s. let b = s.below.2 in omega (arith, c.if-v-d.true))
+pub faces_at-requires-2 : goal.faces_at-requires-2
+faces_at-requires-2 c = omega (arith, shape_of _ _ c.args.tables.now.shape)
 
-pub returns-then-a-b : goal.returns-then-a-b
-returns-then-a-b c = fails (λ s. s.first c.if-a-b.true)
-
-pub returns-then-b-d : goal.returns-then-b-d
-returns-then-b-d c = fails (λ s. s.second c.if-b-d.true)
-
-pub returns-then-d-a : goal.returns-then-d-a
-returns-then-d-a c = fails (λ s. s.third c.if-d-a.true)
+pub faces_at-requires-3 : goal.faces_at-requires-3
+faces_at-requires-3 c = omega (arith, shape_of _ _ c.args.tables.now.shape)
 
 pub returns-then-not-faces_at : goal.returns-then-not-faces_at
 returns-then-not-faces_at c = fails (λ s. said_no c.faces_at.ensures c.if-not-faces_at.true s.tip)
