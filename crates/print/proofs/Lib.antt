@@ -1,5 +1,3 @@
--- How long the lines are, the loop that prints them, and the printing function.
-pub mod Lengths
-pub mod Printing
+-- The printing function, and the lines that the document prints.
 pub mod UnpackLaws
 pub mod Examples

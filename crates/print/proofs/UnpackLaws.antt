@@ -1,10 +1,10 @@
 -- The program's answer and text.
 --
---   ready_sizes        what is lent has the program's sizes
---   unpack_unready     nothing is printed or touched where it has not
---   unpack_long        over 2,048 bytes
---   unpack_refused     a refusal of the record's reader
---   unpack_done        a mesh is printed; done_few: it has at most 800 triangles
+--   ready_sizes ready_room   what is lent has the program's sizes
+--   unpack_unready           nothing is printed or touched where it has not
+--   unpack_long              over 2,048 bytes
+--   unpack_refused           a refusal of the record's reader
+--   unpack_done              a mesh is printed; done_few: it has at most 800 triangles
 use mathlib.Core.Bool.{Bool, ◌&&◌, false, true}
 use mathlib.Core.List.{List, ◌++◌}
 use mathlib.Core.Logic.{◌≢◌}
@@ -13,30 +13,28 @@ use Prim.Native.Nat.{◌*◌, ◌+◌, ◌<◌, ◌≤◌, suc, zero, ℕ}
 use native.Mathlib.Decide.{dec_le}
 use native.Mathlib.Omega.{arith}
 use lib.Dec.{eqb, leb}
-use lib.ListN.{get_or-append, length, length-append}
+use lib.ListN.{get_or-append, length}
 use borrow.Author.Tests.{eq-eqb, eqb-true, le-leb, leb-true, lt-leb, ne_eqb}
 use Rattle.print.specs.Printed.{counts_line, refusal_line, triangle_line, triangle_lines}
 use Rattle.print.specs.Unpack.{Unpacks, answer_text, byte_limit, ready, reported, shown, text_room, triangle_limit, unpack_answer, unpack_text}
+use Rattle.record.proofs.Filled.{Filled}
 use Rattle.record.proofs.OpenLaws.{early_kept}
 use Rattle.record.proofs.RoundTrip.{read_done, read_fits, read_gate, read_letters}
-use Rattle.record.specs.Calls.{Opens, early, open_answer, open_rungs, opened, plain_o, text_answer}
+use Rattle.record.specs.Calls.{Opened, Opens, early, open_answer, open_rungs, opened, plain_o, text_answer}
 use Rattle.record.specs.Lines.{gate_line, letters}
-use Rattle.record.specs.declared.Opened.{Opened}
-use Rattle.text.proofs.PutLaws.{put_inside, put_none, wrote_append}
-use Rattle.text.specs.Put.{Wrote}
+use Rattle.text.proofs.PutLaws.{put_none}
 use Rattle.theory.proofs.AnswerLaws.{whole_passed, whole_stops}
 use Rattle.theory.proofs.CallLaws.{filled_done, filled_refused}
 use Rattle.theory.proofs.Closing.{answer_closes, closes_word}
 use Rattle.theory.proofs.TestLaws.{and_left, and_right}
 use Rattle.theory.proofs.WordLaws.{length_spell}
 use Rattle.theory.proofs.WordTables.{length_o, length_v}
-use Rattle.theory.specs.Answer.{first_broken, refused}
+use Rattle.theory.specs.Answer.{Answer, first_broken, refused}
 use Rattle.theory.specs.Calls.{cleared, filled}
 use Rattle.theory.specs.Judge.{letter_answer, string_done}
 use Rattle.theory.specs.Lists.{mem}
 use Rattle.theory.specs.Tables.{table_o, table_v}
 use Rattle.theory.specs.Word.{size, word_of}
-use Rattle.theory.specs.declared.Answer.{Answer}
 
 pub ready_sizes : (n m k l : ℕ) → ready n m k l ≡ true → (n ≡ 2400) × (m ≡ 2400) × (k ≡ 9600) × (text_room ≤ l)
 unfolding ready
@@ -48,6 +46,9 @@ ready_sizes n m k l h =
       eqb-true k 9600 (and_left (eqb k 9600) _ h2),
       leb-true text_room l (and_right (eqb k 9600) _ h2),
     )
+
+pub ready_room : (n m k l : ℕ) → ready n m k l ≡ true → text_room ≤ l
+ready_room n m k l h = (ready_sizes n m k l h).3
 
 -- room for 800 triangles is what the tables and the work space give
 limit_room : (n : ℕ) → leb (3 * n) 2400 && (leb (3 * n) 2400 && leb (12 * n) 9600) ≡ leb n triangle_limit
@@ -105,28 +106,21 @@ module _ (bytes vs os work out : List ℕ) where
   module _ (well : lent_well vs os work out ≡ true) where
     made : (a : Answer) → unpack_answer bytes ≡ a → (text : List ℕ)
         → answer_text a (gate_line bytes).value (letters bytes) ≡ text
-        → {out' vs' os' work' : List ℕ} {r : ℕ} → Wrote out 0 text out' r → length out' ≡ length out
+        → {out' vs' os' work' : List ℕ} {r : ℕ} → Filled out text out' r
         → vs' ≡ filled a (table_v (word_of (letters bytes))) vs → os' ≡ filled a (table_o (word_of (letters bytes))) os
         → work' ≡ cleared early a work
         → Unpacks bytes vs os work out r vs' os' work' out'
     unfolding shown reported unpack_text
-    made a e text et {out'} {vs'} {os'} {work'} {r} w same ev eo ew =
-        let t : shown (lent_well vs os work out) bytes ≡ text =
-        rw (well, e) et in
+    made a e text et f ev eo ew =
+        let t : shown (lent_well vs os work out) bytes ≡ text = rw (well, e) et in
         let p : reported (lent_well vs os work out) bytes ≡ a = rw (well, e) in
         record {
-          size = rw t (omega (arith, w.place));
-          text = rw t w.text;
+          size = rw t f.size;
+          text = rw t f.text;
           vertices = rw p ev;
           neighbours = rw p eo;
           space = rw p ew;
-          inside = omega (
-            arith,
-            w.place,
-            same,
-            put_inside out 0 text (ap length (sym w.text) ∙ same)
-                (omega arith),
-          );
+          inside = f.inside;
         }
 
     refused_text : (a : Answer) → a.number ≢ 0
@@ -134,14 +128,13 @@ module _ (bytes vs os work out : List ℕ) where
     unfolding answer_text
     refused_text a n = rw (ne_eqb a.number 0 n)
 
-    pub unpack_long : byte_limit < length bytes → {out' : List ℕ} {r : ℕ} → Wrote out 0 (refusal_line 2 0) out' r
-        → length out' ≡ length out
+    pub unpack_long : byte_limit < length bytes → {out' : List ℕ} {r : ℕ} → Filled out (refusal_line 2 0) out' r
         → Unpacks bytes vs os work out r vs os work out'
     unfolding unpack_answer mem
-    unpack_long h w same =
+    unpack_long h f =
         made (refused 2 0) (whole_stops 2 (leb (length bytes) byte_limit) _ (string_done (letters bytes))
         (lt-leb (length bytes) byte_limit h)) (refusal_line 2 0)
-        (refused_text (refused 2 0) (λ e. omega arith)) w same
+        (refused_text (refused 2 0) (λ e. omega arith)) f
         (sym (filled_refused (refused 2 0) (table_v (word_of (letters bytes))) vs (λ e. omega arith)))
         (sym (filled_refused (refused 2 0) (table_o (word_of (letters bytes))) os (λ e. omega arith)))
         (sym (early_kept (refused 2 0) work refl))
@@ -162,11 +155,10 @@ module _ (bytes vs os work out : List ℕ) where
           (sym (limit_room (length (letters bytes))))
           ∙ sym (plain_read ∙ rw (sizes.0, sizes.1, sizes.2))
 
-      pub unpack_refused : r.number ≢ 0 → {out' : List ℕ} {p : ℕ}
-          → Wrote out 0 (refusal_line r.number r.place) out' p → length out' ≡ length out
+      pub unpack_refused : r.number ≢ 0 → {out' : List ℕ} {p : ℕ} → Filled out (refusal_line r.number r.place) out' p
           → Unpacks bytes vs os work out p vs' os' work' out'
-      unpack_refused n w same =
-          made (plain_o r) answered (refusal_line r.number r.place) (refused_text (plain_o r) n) w same
+      unpack_refused n f =
+          made (plain_o r) answered (refusal_line r.number r.place) (refused_text (plain_o r) n) f
           opens.vertices opens.neighbours opens.space
 
       module _ (z : r.number ≡ 0) where
@@ -206,19 +198,9 @@ module _ (bytes vs os work out : List ℕ) where
         unfolding answer_text
         mesh_text_lem = rw (eq-eqb r.number 0 z, lines_read, read_gate bytes vs os work r vs' os' work' opens z)
 
-        pub unpack_done : {mid out' : List ℕ} {p q : ℕ} → Wrote out 0 (counts_line r.t r.v r.gate) mid p
-            → length mid ≡ length out
-            → Wrote mid p (triangle_lines vs' os' r.t) out' q → length out' ≡ length mid
+        pub unpack_done : {out' : List ℕ} {q : ℕ}
+            → Filled out (counts_line r.t r.v r.gate ++ triangle_lines vs' os' r.t) out' q
             → Unpacks bytes vs os work out q vs' os' work' out'
-        unpack_done {mid} {out'} {p} {q} w kept w2 kept2 =
-            let line = counts_line r.t r.v r.gate in
-            let rest = triangle_lines vs' os' r.t in
-            let one : 0 + length line ≤ length out = put_inside out 0 line (ap length (sym w.text) ∙ kept)
-            (omega arith) in
-            let two : p + length rest ≤ length mid = put_inside mid p rest (ap length (sym w2.text) ∙ kept2)
-            (omega (arith, w.place, one, kept)) in
-            let room : 0 + length (line ++ rest) ≤ length out =
-            omega (arith, length-append line rest, w.place, two, kept) in
-            made (plain_o r) answered (line ++ rest) mesh_text_lem (wrote_append out 0 line rest room mid p w out' q w2)
-            (kept2 ∙ kept)
+        unpack_done f =
+            made (plain_o r) answered (counts_line r.t r.v r.gate ++ triangle_lines vs' os' r.t) mesh_text_lem f
             opens.vertices opens.neighbours opens.space

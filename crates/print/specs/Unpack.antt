@@ -11,12 +11,11 @@ use Rattle.print.specs.Printed.{counts_line, refusal_line, triangle_lines}
 use Rattle.record.specs.Calls.{early, open_rungs}
 use Rattle.record.specs.Lines.{gate_line, letters}
 use Rattle.text.specs.Put.{put}
-use Rattle.theory.specs.Answer.{first_broken, refused, whole}
+use Rattle.theory.specs.Answer.{Answer, first_broken, refused, whole}
 use Rattle.theory.specs.Calls.{cleared, filled}
 use Rattle.theory.specs.Judge.{string_done}
 use Rattle.theory.specs.Tables.{table_o, table_v}
 use Rattle.theory.specs.Word.{word_of}
-use Rattle.theory.specs.declared.Answer.{Answer}
 
 abbrev pub byte_limit : ℕ
 byte_limit = 2048

@@ -1,14 +1,19 @@
-// The mesh of a record as text: the function that the program unpack calls, and the lines that it prints. Each writer
-// writes into a buffer and answers the place behind what it wrote.
+// The mesh of a record as text: the function that the program unpack calls, and the lines that it prints.
 #![tactic(auto)]
 
 ghost use Rattle.std.specs.Prelude.{◌≡◌, ◌+◌, ◌*◌, ◌≤◌, ◌<◌, length};
-ghost use Rattle.text.specs.Put.{Wrote};
+ghost use Rattle.text.specs.Put.{Writes};
+ghost use Rattle.theory.specs.Answer.{number};
 ghost use Rattle.print.specs.Printed.{numbered, three, counts_line, triangle_line, triangle_lines, refusal_line};
 ghost use Rattle.print.specs.Unpack.{Unpacks, ready};
 
+use record::Last;
+use text::Writer;
+use theory::{Refusal, Rule};
+
 // Prints what a record holds, or its refusal, into out; answers how many bytes. The tables have 2,400 numbers each, the
 // work space 9,600 and the buffer at least 66,446 bytes; where they have not, nothing is printed or touched.
+#[tactic(auto, using(crate::proofs::UnpackLaws::ready_room))]
 pub fn unpack(
     bytes: &[u8],
     vs: &mut [u32],
@@ -21,92 +26,94 @@ pub fn unpack(
     if !is_ready(vs.len(), os.len(), work.len(), out.len()) {
         return 0;
     }
+    let mut w = Writer::new(out);
     if 2048 < bytes.len() {
-        return write_refusal(out, 0, 2, 0);
+        write_refusal(&mut w, Rule::Room.at(0));
+        return w.size();
     }
-    let answer = record::read_record(bytes, vs, os, work);
-    if answer.number != 0 {
-        return write_refusal(out, 0, answer.number, answer.place);
+    match record::read_record(bytes, vs, os, work) {
+        Ok(last) => {
+            write_counts(&mut w, last);
+            write_triangles(&mut w, vs, os, last.counts.t);
+        }
+        Err(refusal) => write_refusal(&mut w, refusal),
     }
-    let p = write_counts(out, 0, answer.t, answer.v, answer.gate);
-    write_triangles(out, p, vs, os, answer.t)
+    w.size()
 }
 
+#[tactic(auto, unfolding(crate::specs::Unpack::ready))]
 fn is_ready(n: usize, m: usize, k: usize, l: usize) -> bool
     ensures { result ≡ ready n m k l }
 {
-    if n != 2400 {
-        return false;
+    n == 2400 && m == 2400 && k == 9600 && 66446 <= l
+}
+
+// The lines of the first t triangles, each of at most 83 bytes. The room that is left stays a clause of each writer,
+// since each takes another number of bytes.
+fn write_triangles(w: &mut Writer, vs: &[u32], os: &[u32], t: u32)
+    requires tables { (3 * t ≤ length vs.now) × (3 * t ≤ length os.now) }
+    requires room { w.old.at + 83 * t ≤ length w.old.out.now }
+    ensures { Writes w.old (triangle_lines vs.now os.now t) w.new }
+{
+    for k in 0..t {
+        write_triangle(w, vs, os, k);
     }
-    if m != 2400 {
-        return false;
-    }
-    if k != 9600 {
-        return false;
-    }
-    66446 <= l
 }
 
-// The lines of the first t triangles, each of at most 83 bytes.
-fn write_triangles(out: &mut [u8], at: usize, vs: &[u32], os: &[u32], t: u32) -> usize
-    requires { (3 * t ≤ length vs.now) × (3 * t ≤ length os.now) × (at + 83 * t ≤ length out.old) }
-    ensures { Wrote out.old at (triangle_lines vs.now os.now t) out.new result }
-{
-    let mut k = 0;
-    let mut p = at;
-    while k < t {
-        p = write_triangle(out, p, vs, os, k);
-        k += 1;
-    }
-    p
-}
-
-fn write_numbered(out: &mut [u8], at: usize, key: &[u8], n: u32) -> usize
-    requires { at + length (numbered key.now n) ≤ length out.old }
-    ensures { Wrote out.old at (numbered key.now n) out.new result }
-{
-    let p = text::write_bytes(out, at, key);
-    text::write_decimal(out, p, n)
-}
-
-fn write_three(out: &mut [u8], at: usize, key: &[u8], a: u32, b: u32, d: u32) -> usize
-    requires { at + length (three key.now a b d) ≤ length out.old }
-    ensures { Wrote out.old at (three key.now a b d) out.new result }
-{
-    let p = write_numbered(out, at, key, a);
-    let q = write_numbered(out, p, b",", b);
-    write_numbered(out, q, b",", d)
-}
-
-// tri=4 ver=4 gate=7
-fn write_counts(out: &mut [u8], at: usize, t: u32, v: u32, gate: u32) -> usize
-    requires { at + length (counts_line t v gate) ≤ length out.old }
-    ensures { Wrote out.old at (counts_line t v gate) out.new result }
-{
-    let p = write_numbered(out, at, b"tri=", t);
-    let q = write_numbered(out, p, b" ver=", v);
-    let r = write_numbered(out, q, b" gate=", gate);
-    text::write_bytes(out, r, b"\n")
-}
-
-// refused=6 place=1
-fn write_refusal(out: &mut [u8], at: usize, number: u32, place: u32) -> usize
-    requires { at + length (refusal_line number place) ≤ length out.old }
-    ensures { Wrote out.old at (refusal_line number place) out.new result }
-{
-    let p = write_numbered(out, at, b"refused=", number);
-    let q = write_numbered(out, p, b" place=", place);
-    text::write_bytes(out, q, b"\n")
-}
-
-// k=0 v=2,0,1 o=7,3,10
-fn write_triangle(out: &mut [u8], at: usize, vs: &[u32], os: &[u32], k: u32) -> usize
-    requires { (3 * k + 2 < length vs.now) × (3 * k + 2 < length os.now) × (at + length (triangle_line vs.now os.now k) ≤ length out.old) }
-    ensures { Wrote out.old at (triangle_line vs.now os.now k) out.new result }
+// k=0 v=2,0,1 o=7,3,10, at most 83 bytes
+fn write_triangle(w: &mut Writer, vs: &[u32], os: &[u32], k: u32)
+    requires tables { (3 * k + 2 < length vs.now) × (3 * k + 2 < length os.now) }
+    requires room { w.old.at + 83 ≤ length w.old.out.now }
+    ensures short { w.new.at ≤ w.old.at + 83 }
+    ensures line { Writes w.old (triangle_line vs.now os.now k) w.new }
 {
     let i = 3 * (k as usize);
-    let p = write_numbered(out, at, b"k=", k);
-    let q = write_three(out, p, b" v=", vs[i], vs[i + 1], vs[i + 2]);
-    let r = write_three(out, q, b" o=", os[i], os[i + 1], os[i + 2]);
-    text::write_bytes(out, r, b"\n")
+    write_numbered(w, b"k=", k);
+    write_three(w, b" v=", vs[i], vs[i + 1], vs[i + 2]);
+    write_three(w, b" o=", os[i], os[i + 1], os[i + 2]);
+    w.bytes(b"\n");
+}
+
+// tri=4 ver=4 gate=7, at most 46 bytes
+fn write_counts(w: &mut Writer, last: Last)
+    requires { w.old.at + 46 ≤ length w.old.out.now }
+    ensures short { w.new.at ≤ w.old.at + 46 }
+    ensures line { Writes w.old (counts_line last.counts.t last.counts.v last.gate) w.new }
+{
+    write_numbered(w, b"tri=", last.counts.t);
+    write_numbered(w, b" ver=", last.counts.v);
+    write_numbered(w, b" gate=", last.gate);
+    w.bytes(b"\n");
+}
+
+// refused=6 place=1, at most 36 bytes
+fn write_refusal(w: &mut Writer, refusal: Refusal)
+    requires { w.old.at + 36 ≤ length w.old.out.now }
+    ensures { Writes w.old (refusal_line (number refusal.rule) refusal.place) w.new }
+{
+    write_numbered(w, b"refused=", refusal.rule.into());
+    write_numbered(w, b" place=", refusal.place);
+    w.bytes(b"\n");
+}
+
+// A key, and three numbers with commas between them.
+fn write_three(w: &mut Writer, key: &[u8], a: u32, b: u32, d: u32)
+    requires { w.old.at + length key.now + 32 ≤ length w.old.out.now }
+    ensures short { w.new.at ≤ w.old.at + length key.now + 32 }
+    ensures text { Writes w.old (three key.now a b d) w.new }
+{
+    write_numbered(w, key, a);
+    write_numbered(w, b",", b);
+    write_numbered(w, b",", d);
+}
+
+// A key and a number, which has at most 10 digits.
+#[tactic(auto, using(text::proofs::DecimalLaws::decimal_word))]
+fn write_numbered(w: &mut Writer, key: &[u8], n: u32)
+    requires { w.old.at + length key.now + 10 ≤ length w.old.out.now }
+    ensures short { w.new.at ≤ w.old.at + length key.now + 10 }
+    ensures text { Writes w.old (numbered key.now n) w.new }
+{
+    w.bytes(key);
+    w.decimal(n);
 }

@@ -12,8 +12,8 @@ use native.Mathlib.Omega.{arith}
 use lib.Dec.{eqb, ltb}
 use lib.ListN.{drop, get_or, length, length-append, length-drop, take}
 use lib.Seq.{drop-drop, take-append_seam}
-use borrow.Author.Tests.{eqb-true, ltb-true}
-use Rattle.record.proofs.HeadLaws.{malformed, malformed_none, values_done, values_of}
+use borrow.Author.Tests.{eq-eqb, eqb-true, lt-ltb, ltb-true}
+use Rattle.record.proofs.HeadLaws.{malformed, malformed_none, values_of}
 use Rattle.record.proofs.RungLaws.{zero_passed, zero_whole}
 use Rattle.record.specs.Head.{sym_start}
 use Rattle.record.specs.Lines.{after1, after2, after3, after4, form_line, gate_line, head_rungs, is_sym_line, letters, tri_line, well_formed_at}
@@ -22,10 +22,9 @@ use Rattle.text.proofs.KeyedLaws.{keyed_lacks, keyed_split}
 use Rattle.text.proofs.NumberLineLaws.{good_after, good_text, number_line_split}
 use Rattle.text.specs.Decimal.{decimal}
 use Rattle.text.specs.Line.{lacks, line_end}
-use Rattle.theory.proofs.AnswerLaws.{each_passed}
-use Rattle.theory.specs.Answer.{count_ok, each, first_broken}
+use Rattle.theory.proofs.AnswerLaws.{each_passed, none_broken, whole_passed}
+use Rattle.theory.specs.Answer.{Answer, count_ok, each, first_broken}
 use Rattle.theory.specs.Lists.{least, least_from}
-use Rattle.theory.specs.declared.Answer.{Answer}
 
 pub record Lines (text : List ℕ) : Type 0 where
   pub form : (form_line text).good ≡ true
@@ -44,7 +43,7 @@ five true true false d e h = absurd (omega arith)
 five true false c d e h = absurd (omega arith)
 five false b c d e h = absurd (omega arith)
 
-empty : (l : List ℕ) → length l ≡ 0 → l ≡ []
+pub empty : (l : List ℕ) → length l ≡ 0 → l ≡ []
 empty [] e = refl
 empty (x ∷ l) e = absurd (omega arith)
 
@@ -66,7 +65,8 @@ module _ (text : List ℕ) (lines : Lines text) where
   pub lines_well : malformed text ≡ 5
   lines_well = malformed_none text lines.form lines.tri lines.gate lines.sym_line (ap length lines.end)
 
-  pub lines_text : text ≡ record_of (form_line text).value (tri_line text).value (gate_line text).value (letters text) []
+  pub lines_text : text
+      ≡ record_of (form_line text).value (tri_line text).value (gate_line text).value (letters text) []
   unfolding record_of
   lines_text =
       good_text form_key text (number_line_split form_key text lines.form)
@@ -77,7 +77,7 @@ module _ (text : List ℕ) (lines : Lines text) where
       ∙ ap (keyed gate_key (decimal (gate_line text).value))
       (keyed_split sym_key (after3 text) lines.sym_line ∙ ap (keyed sym_key (letters text)) lines.end)))
 
-  behind_key : drop (sym_start text) text ≡ letters text ++ line_end ∷ after4 text
+  pub behind_key : drop (sym_start text) text ≡ letters text ++ line_end ∷ after4 text
   unfolding sym_start
   behind_key =
       sym (drop-drop 4 ((form_line text).size + (tri_line text).size + (gate_line text).size) text)
@@ -91,7 +91,8 @@ module _ (text : List ℕ) (lines : Lines text) where
       ∙ keyed_split sym_key (after3 text) lines.sym_line)
 
   pub letters_place : take (length (letters text)) (drop (sym_start text) text) ≡ letters text
-  letters_place = ap (take (length (letters text))) behind_key ∙ take-append_seam (letters text) (line_end ∷ after4 text)
+  letters_place =
+      ap (take (length (letters text))) behind_key ∙ take-append_seam (letters text) (line_end ∷ after4 text)
 
   -- the part that is passed on ends within the text
   pub letters_inside : sym_start text + length (letters text) ≤ length text
@@ -132,5 +133,8 @@ good_of text a z =
 pub good_passes : (text : List ℕ) → Good text → (a : Answer) → first_broken (head_rungs text) a ≡ a
 good_passes text good a =
     each_passed 16 (well_formed_at text) 5 (values_of text) a (omega (arith, lines_well text good.lines))
-    ∙ sym (values_done (form_line text).value (tri_line text).value (gate_line text).value (length (letters text)) a
-    good.one good.count good.corner good.enough)
+    ∙ whole_passed 17 _ _ a (eq-eqb (form_line text).value 1 good.one)
+    ∙ whole_passed 1 _ _ a good.count
+    ∙ whole_passed 8 _ _ a (lt-ltb (gate_line text).value (3 * (tri_line text).value) good.corner)
+    ∙ whole_passed 18 _ _ a (eq-eqb (length (letters text)) (tri_line text).value good.enough)
+    ∙ none_broken a

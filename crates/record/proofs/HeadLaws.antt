@@ -1,7 +1,8 @@
 -- Laws of the record's head, check by check.
 --
---   values-*        numbers 17, 1, 8, 18 in this order
---   malformed-*     number 16 at 0 to 4
+--   past_form past_count    what is left of 17, 1, 8 and 18 behind the first, and behind the second
+--   values          what 17, 1, 8 and 18 ask, which the check finds in this order
+--   malformed_*     number 16 at 0 to 4
 --   head_line head_refused head_accepted    what the head answers
 use mathlib.Core.Bool.{false, true}
 use mathlib.Core.List.{List, [], ◌∷◌}
@@ -11,45 +12,30 @@ use Prim.Native.Nat.{◌*◌, ◌<◌, ◌≤◌, ℕ}
 use native.Mathlib.Omega.{arith}
 use lib.Dec.{eqb, ltb}
 use lib.ListN.{length}
-use borrow.Author.Tests.{eq-eqb, le-ltb, lt-ltb, ne_eqb}
+use borrow.Author.Tests.{eq-eqb, ne_eqb}
 use Rattle.record.specs.Head.{accepted_head, head_answer, head_of, refused_head}
 use Rattle.record.specs.Lines.{after4, form_line, gate_line, is_sym_line, letters, tri_line, value_rungs, well_formed_at}
-use Rattle.theory.proofs.AnswerLaws.{each_passed, each_stops, none_broken, whole_passed, whole_stops}
-use Rattle.theory.specs.Answer.{Rung, count_ok, count_rung, done, first_broken, refused, whole}
+use Rattle.theory.proofs.AnswerLaws.{count_few, each_passed, each_stops, none_broken, whole_passed, whole_stops}
+use Rattle.theory.specs.Answer.{Answer, Rung, count_ok, count_rung, done, first_broken, refused, whole}
 use Rattle.theory.specs.Lists.{least, least_from}
-use Rattle.theory.specs.declared.Answer.{Answer}
 
 -- ---- the values, in order
 
-module _ (form t gate count : ℕ) (a : Answer) where
-  pub values_form : form ≢ 1 → refused 17 0 ≡ first_broken (value_rungs form t gate count) a
-  values_form h = sym (whole_stops 17 (eqb form 1) _ a (ne_eqb form 1 h))
+-- what number 1 leaves of a count
+pub count_limit : (t : ℕ) → count_ok t ≡ true → t ≤ 65536
+count_limit t h = (count_few t h).2
 
-  module _ (f : form ≡ 1) where
-    past_form : first_broken (value_rungs form t gate count) a ≡ first_broken
-        (count_rung t ∷ whole 8 (ltb gate (3 * t)) ∷ whole 18 (eqb count t) ∷ []) a
-    past_form = whole_passed 17 (eqb form 1) _ a (eq-eqb form 1 f)
+module _ (form t gate count : ℕ) (a : Answer) (f : form ≡ 1) where
+  pub past_form : first_broken (value_rungs form t gate count) a ≡ first_broken
+      (count_rung t ∷ whole 8 (ltb gate (3 * t)) ∷ whole 18 (eqb count t) ∷ []) a
+  past_form = whole_passed 17 (eqb form 1) _ a (eq-eqb form 1 f)
 
-    pub values_count : count_ok t ≡ false → refused 1 0 ≡ first_broken (value_rungs form t gate count) a
-    values_count e = sym (past_form ∙ whole_stops 1 (count_ok t) _ a e)
+  pub past_count : count_ok t ≡ true → first_broken (value_rungs form t gate count) a ≡ first_broken
+      (whole 8 (ltb gate (3 * t)) ∷ whole 18 (eqb count t) ∷ []) a
+  past_count k = past_form ∙ whole_passed 1 (count_ok t) _ a k
 
-    module _ (k : count_ok t ≡ true) where
-      past_count : first_broken (value_rungs form t gate count) a ≡ first_broken
-          (whole 8 (ltb gate (3 * t)) ∷ whole 18 (eqb count t) ∷ []) a
-      past_count = past_form ∙ whole_passed 1 (count_ok t) _ a k
-
-      pub values_gate : 3 * t ≤ gate → refused 8 0 ≡ first_broken (value_rungs form t gate count) a
-      values_gate h = sym (past_count ∙ whole_stops 8 (ltb gate (3 * t)) _ a (le-ltb gate (3 * t) h))
-
-      module _ (g : gate < 3 * t) where
-        past_gate : first_broken (value_rungs form t gate count) a ≡ first_broken (whole 18 (eqb count t) ∷ []) a
-        past_gate = past_count ∙ whole_passed 8 (ltb gate (3 * t)) _ a (lt-ltb gate (3 * t) g)
-
-        pub values_letters : count ≢ t → refused 18 0 ≡ first_broken (value_rungs form t gate count) a
-        values_letters h = sym (past_gate ∙ whole_stops 18 (eqb count t) _ a (ne_eqb count t h))
-
-        pub values_done : count ≡ t → a ≡ first_broken (value_rungs form t gate count) a
-        values_done h = sym (past_gate ∙ whole_passed 18 (eqb count t) _ a (eq-eqb count t h) ∙ none_broken a)
+-- what the code asks of the values
+pub ruleset values = (whole_passed, whole_stops, none_broken, count_limit)
 
 -- ---- the lines, in order
 

@@ -5,6 +5,7 @@ pub mod HeadLaws
 pub mod HeadSteps
 pub mod Accepted
 pub mod OpenLaws
+pub mod Filled
 pub mod PackLaws
 pub mod Written
 pub mod RoundTrip

@@ -15,21 +15,22 @@ use lib.Dec.{eqb, leb}
 use lib.ListN.{drop, length, take}
 use borrow.Author.Tests.{eq-eqb, ne_eqb}
 use Rattle.record.proofs.Accepted.{Good, good_of, good_passes, letters_inside, letters_place}
-use Rattle.record.proofs.RungLaws.{first_broken_append, plain_refusal, refusal_same}
-use Rattle.record.specs.Calls.{Opens, early, open_answer, opened, text_answer}
-use Rattle.record.specs.Head.{accepted_head, head_answer, head_of, refused_head}
+use Rattle.record.proofs.RungLaws.{first_broken_append, plain_refusal, refused_append}
+use Rattle.record.specs.Calls.{Opened, Opens, early, open_answer, opened, opened_of, plain_o, text_answer}
+use Rattle.record.specs.Head.{Head, accepted_head, head_answer, head_in, head_of, refused_head}
 use Rattle.record.specs.Lines.{head_rungs, letters}
-use Rattle.record.specs.declared.Head.{Head}
-use Rattle.record.specs.declared.Opened.{Opened}
+use Rattle.std.specs.Prelude.{Err, Ok}
 use Rattle.theory.proofs.AnswerLaws.{whole_passed}
 use Rattle.theory.proofs.CallLaws.{filled_refused, rungs_keep}
-use Rattle.theory.specs.Answer.{count_ok, count_rung, done, refused, room_rung}
+use Rattle.theory.proofs.ResultLaws.{answer_err}
+use Rattle.theory.specs.Answer.{Answer, answer, count_ok, count_rung, done, number, refused, room_rung}
 use Rattle.theory.specs.Calls.{Reads, cleared, filled, judge_answer, read_answer, sizes}
 use Rattle.theory.specs.Judge.{letter_rungs, string_answer, string_done}
 use Rattle.theory.specs.Lists.{mem}
 use Rattle.theory.specs.Tables.{table_o, table_v}
 use Rattle.theory.specs.Word.{word_of}
-use Rattle.theory.specs.declared.Answer.{Answer}
+use Rattle.theory.specs.declared.Counts.{Counts}
+use Rattle.theory.specs.declared.Refusal.{Refusal}
 
 -- the numbers that come before 2 leave the work space alone
 abbrev pub Early : ℕ → Type 0
@@ -114,43 +115,67 @@ module _ (text : List ℕ) (h : Head) (e : h ≡ head_of text) (z : h.number ≡
       let q : h.start + h.len - h.start ≡ h.len = omega arith in
       rw (q, accepted) (letters_place text (head_good text zero).lines)
 
-module _ (text vs os work : List ℕ) (h : Head) (e : h ≡ head_of text) where
-  pub open_refused : h.number ≢ 0 → (a : Answer) → a ≡ refused h.number h.place → (r : Opened)
-      → r ≡ opened a 0 → Opens text vs os work r vs os work
-  unfolding head_answer open_answer text_answer opened
-  open_refused n a ea r er =
-      let m : (head_of text).number ≢ 0 = λ z. n (ap (λ (x : Head). x.number) e ∙ z) in
+-- a refusal is answered with no gate
+opened_err : (e : Refusal) (gate : ℕ) → opened_of (Err e) ≡ opened (answer (Err e)) gate
+unfolding opened
+opened_err e gate = rw (ne_eqb (number e.rule) 0 (answer_err (Err e) refl))
+
+module _ (text vs os work : List ℕ) where
+  pub open_refused : (e : Refusal) → head_in (Err e) ≡ head_of text
+      → Opens text vs os work (opened_of (Err e)) vs os work
+  unfolding head_answer open_answer text_answer
+  open_refused e h =
+      let a = answer (Err e) in
+      let k : a.number ≢ 0 = answer_err (Err e) refl in
+      let m : (head_of text).number ≢ 0 = λ z. k (ap (λ (x : Head). x.number) h ∙ z) in
       let b : a ≡ head_answer text =
-      ea ∙ ap (λ (x : Head). refused x.number x.place) (e ∙ head_isnt text m)
-      ∙ sym (plain_refusal (head_rungs text)) in
-      let k : a.number ≢ 0 = λ z. head_not text m (ap (λ (x : Answer). x.number) (sym b) ∙ z) in
+      ap (λ (x : Head). refused x.number x.place) (h ∙ head_isnt text m) ∙ sym (plain_refusal (head_rungs text)) in
       let o : open_answer text (length vs) (length os) (length work) ≡ a =
-      first_broken_append (head_rungs text) _ (string_done (letters text))
-      ∙ refusal_same (head_rungs text) (done 0 0) _ refl (head_not text m) ∙ sym b in
-      let q : Early a.number = rw b (head_early text (head_not text m)) in
+      refused_append (head_rungs text) _ (done 0 0) (string_done (letters text)) refl (head_not text m) ∙ sym b in
       record {
-        answer = er ∙ rw (o, ne_eqb a.number 0 k);
-        vertices = rw er (sym (filled_refused a _ vs k));
-        neighbours = rw er (sym (filled_refused a _ os k));
-        space = rw er (sym (early_kept a work q));
+        answer = rw o (opened_err e _);
+        vertices = sym (filled_refused a _ vs k);
+        neighbours = sym (filled_refused a _ os k);
+        space = sym (early_kept a work (subst (λ (x : Answer). Early x.number) (sym b)
+            (head_early text (head_not text m))));
       }
 
-  pub open_read : h.number ≡ 0 → (s : List ℕ) → s ≡ letters text → {a : Answer} {vs' os' work' : List ℕ}
-      → Reads s vs os work a vs' os' work'
-      → (r : Opened) → r ≡ opened a h.gate → Opens text vs os work r vs' os' work'
-  unfolding open_answer text_answer read_answer string_answer opened
-  open_read z s es {a} {vs'} {os'} {work'} reads r er =
-      let good = head_good text (zero text h e z) in
-      let count : count_ok (length (letters text)) ≡ true = ap count_ok good.enough ∙ good.count in
-      let b : a ≡ read_answer (letters text) (length vs) (length os) (length work) =
-      reads.answer ∙ ap (λ (l : List ℕ). read_answer l (length vs) (length os) (length work)) es in
-      let o : open_answer text (length vs) (length os) (length work) ≡ a =
-      first_broken_append (head_rungs text) _ (string_done (letters text)) ∙ good_passes text good _
-      ∙ sym (whole_passed 1 (count_ok (length (letters text))) _ (string_done (letters text)) count) ∙ sym b in
-      record {
-        answer = er ∙ rw (o, ap (λ (x : Head). x.gate) (accepted text h e z));
-        vertices = rw er (reads.vertices ∙ ap (λ (l : List ℕ). filled a (table_v (word_of l)) vs) es);
-        neighbours = rw er (reads.neighbours ∙ ap (λ (l : List ℕ). filled a (table_o (word_of l)) os) es);
-        space = rw er (reads.space ∙ string_cleared a work
-            (rw b (read_numbers (letters text) (length vs) (length os) (length work))));
-      }
+  module _ (h : Head) (e : h ≡ head_of text) (z : h.number ≡ 0) {vs' os' work' : List ℕ} where
+    read : (a : Answer) → Reads (take (h.start + h.len - h.start) (drop h.start text)) vs os work a vs' os' work'
+        → (r : Opened) → plain_o r ≡ a → r ≡ opened a h.gate → Opens text vs os work r vs' os' work'
+    unfolding open_answer text_answer read_answer string_answer
+    read a reads r ea er =
+        let es = head_part text h e z in
+        let good = head_good text (zero text h e z) in
+        let count : count_ok (length (letters text)) ≡ true = ap count_ok good.enough ∙ good.count in
+        let b : a ≡ read_answer (letters text) (length vs) (length os) (length work) =
+        reads.answer ∙ ap (λ (l : List ℕ). read_answer l (length vs) (length os) (length work)) es in
+        let o : open_answer text (length vs) (length os) (length work) ≡ a =
+        first_broken_append (head_rungs text) _ (string_done (letters text)) ∙ good_passes text good _
+        ∙ sym (whole_passed 1 (count_ok (length (letters text))) _ (string_done (letters text)) count) ∙ sym b in
+        record {
+          answer = er ∙ rw (o, ap (λ (x : Head). x.gate) (accepted text h e z));
+          vertices = rw ea (reads.vertices ∙ ap (λ (l : List ℕ). filled a (table_v (word_of l)) vs) es);
+          neighbours = rw ea (reads.neighbours ∙ ap (λ (l : List ℕ). filled a (table_o (word_of l)) os) es);
+          space = rw ea (reads.space ∙ string_cleared a work
+              (rw b (read_numbers (letters text) (length vs) (length os) (length work))));
+        }
+
+-- the string reader's answer is the call's, with the gate
+module _ (text : List ℕ) (gate start len : ℕ)
+    (e : record { number = 0; place = 0; gate = gate; start = start; len = len } ≡ head_of text) where
+  abbrev part : List ℕ
+  part = take (start + len - start) (drop start text)
+
+  pub part_inside : start + len ≤ length text
+  part_inside = head_inside text _ e refl
+
+  module _ (vs os work vs' os' work' : List ℕ) where
+    pub open_done : (c : Counts) → Reads part vs os work (answer (Ok c)) vs' os' work'
+        → Opens text vs os work (opened_of (Ok (record { counts = c; gate = gate }))) vs' os' work'
+    unfolding opened
+    open_done c reads = read text vs os work _ e refl _ reads _ refl refl
+
+    pub open_stopped : (f : Refusal) → Reads part vs os work (answer (Err f)) vs' os' work'
+        → Opens text vs os work (opened_of (Err f)) vs' os' work'
+    open_stopped f reads = read text vs os work _ e refl _ reads _ refl (opened_err f gate)

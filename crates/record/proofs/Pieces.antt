@@ -1,17 +1,15 @@
 -- A record's text, piece by piece.
 --
---   record_pieces              the text as it is written is the text of the four lines
---   record_length              how long it is
---   record_room record_wrote   a writer of the pieces has room for them, and wrote the text
+--   record_pieces   the text as it is written is the text of the four lines
+--   record_length   how long it is
 use mathlib.Core.List.{List, [], ◌++◌, ◌∷◌, append_assoc}
-use mathlib.Core.Path.{◌∙◌, ◌≡◌, ap, refl, subst, sym}
-use Prim.Native.Nat.{◌+◌, ◌≤◌, ℕ}
+use mathlib.Core.Path.{◌∙◌, ◌≡◌, ap, refl, sym}
+use Prim.Native.Nat.{◌+◌, ℕ}
 use native.Mathlib.Omega.{arith}
 use lib.ListN.{length, length-append}
 use Rattle.record.specs.Head.{end_gate, end_sym, ended, form_tri, front_text}
 use Rattle.record.specs.Record.{record_of, record_text}
 use Rattle.text.specs.Decimal.{decimal, decimal_in}
-use Rattle.text.specs.Put.{Wrote}
 
 pieces : (b c d e f g : List ℕ) → b ++ c ++ d ++ e ++ f ++ g ≡ b ++ (c ++ (d ++ (e ++ (f ++ g))))
 pieces b c d e f g =
@@ -49,12 +47,3 @@ record_length t gate s =
       length-append (front_text t gate ++ end_sym) s,
       length-append (front_text t gate) end_sym,
     ))
-
-module _ (l : List ℕ) (at t gate : ℕ) (s : List ℕ) where
-  pub record_room : at + length (record_text t gate s) ≤ length l
-      → at + length (front_text t gate ++ end_sym ++ s ++ ended) ≤ length l
-  record_room h = subst (λ (x : List ℕ). at + length x ≤ length l) (sym (record_pieces t gate s)) h
-
-  pub record_wrote : {l2 : List ℕ} {r : ℕ} → Wrote l at (front_text t gate ++ end_sym ++ s ++ ended) l2 r
-      → Wrote l at (record_text t gate s) l2 r
-  record_wrote {l2} {r} w = subst (λ (x : List ℕ). Wrote l at x l2 r) (record_pieces t gate s) w

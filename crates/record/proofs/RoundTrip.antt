@@ -12,27 +12,25 @@ use native.Mathlib.Omega.{arith}
 use lib.Dec.{leb, ltb}
 use lib.ListN.{drop, get_or, length, take}
 use lib.Seq.{take-append_seam}
-use borrow.Author.Tests.{le-leb, leb-true, lt-ltb, ltb-true, ne_eqb}
+use borrow.Author.Tests.{le-leb, leb-true, lt-ltb, ne_eqb}
 use Rattle.record.proofs.Accepted.{Good, good_of, good_passes, lines_text}
+use Rattle.record.proofs.PackLaws.{sizes_pass}
 use Rattle.record.proofs.RungLaws.{first_broken_append, none_stops, zero_passed, zero_whole}
 use Rattle.record.proofs.Written.{Packable, text_gate, text_good, text_letters}
-use Rattle.record.specs.Calls.{Opens, Packs, open_answer, opened, pack_answer, pack_rungs, packed, plain_o, plain_p, text_answer, text_of}
+use Rattle.record.specs.Calls.{Opened, Opens, Packed, Packs, open_answer, opened, pack_answer, pack_rungs, packed, plain_o, plain_p, text_answer, text_of}
 use Rattle.record.specs.Lines.{gate_line, head_rungs, letters}
 use Rattle.record.specs.Record.{record_text}
-use Rattle.record.specs.declared.Opened.{Opened}
-use Rattle.record.specs.declared.Packed.{Packed}
 use Rattle.text.specs.Line.{lacks, line_end}
 use Rattle.theory.proofs.AnswerLaws.{whole_passed}
 use Rattle.theory.proofs.CallLaws.{EachRung, filled_done}
 use Rattle.theory.proofs.LeastLaws.{least_below}
 use Rattle.theory.proofs.Opens.{opens}
 use Rattle.theory.proofs.TestLaws.{and_left, not_both}
-use Rattle.theory.specs.Answer.{count_ok, each, first_broken, room_rung}
+use Rattle.theory.specs.Answer.{Answer, count_ok, each, first_broken, room_rung}
 use Rattle.theory.specs.Judge.{letter_answer, letter_rungs, string_done}
 use Rattle.theory.specs.Letter.{is_letter, letter}
 use Rattle.theory.specs.Tables.{table_o, table_v}
 use Rattle.theory.specs.Word.{word_of}
-use Rattle.theory.specs.declared.Answer.{Answer}
 
 -- ---- the letters
 
@@ -64,13 +62,12 @@ module _ (s : List ℕ) (gate n k : ℕ) (z : (pack_answer s gate n k).number �
   abbrev fits : Bool
   fits = leb (length (text_of s gate)) n && leb (12 * length s) k
 
-  past : (count_ok (length s) ≡ true) × (gate < 3 * length s) × ((first_broken (letter_rungs s) (string_done s)).number ≡ 0)
+  past : (count_ok (length s) ≡ true) × (gate < 3 * length s)
+      × ((first_broken (letter_rungs s) (string_done s)).number ≡ 0)
   unfolding pack_answer packed
   past =
-      let p = zero_whole 1 (count_ok (length s)) _ (string_done s) (λ e. omega arith) z in
-      let q = zero_whole 8 (ltb gate (3 * length s)) _ (string_done s) (λ e. omega arith) p.1 in
-      let r = zero_whole 2 fits _ (string_done s) (λ e. omega arith) q.1 in
-      (p.0, ltb-true gate (3 * length s) q.0, r.1)
+      let p = sizes_pass s gate fits (letter_rungs s) (string_done s) z in
+      (p.0, p.1, p.3)
 
   pub pack_packable : Packable s gate
   pack_packable = record { count = past.0; corner = past.1; no_end = letters_lack_end s (string_done s) past.2 }

@@ -18,8 +18,7 @@ use Rattle.text.proofs.KeyedLaws.{keyed_after, keyed_made, value_of_made}
 use Rattle.text.proofs.LineLaws.{lacks_digits}
 use Rattle.text.proofs.NumberLineLaws.{number_line_made}
 use Rattle.text.specs.Decimal.{decimal}
-use Rattle.text.specs.Line.{after, is_keyed, lacks, line_end, number_line, value_of}
-use Rattle.text.specs.declared.NumberLine.{NumberLine}
+use Rattle.text.specs.Line.{NumberLine, after, is_keyed, lacks, line_end, number_line, value_of}
 use Rattle.theory.proofs.AnswerLaws.{count_few}
 use Rattle.theory.specs.Answer.{count_ok}
 
@@ -63,7 +62,8 @@ module _ (s : List ℕ) (gate : ℕ) (packable : Packable s gate) where
   few : length s ≤ 65536
   few = (count_few (length s) packable.count).2
 
-  form_made : form_line whole_text ≡ record { good = true; value = 1; size = suc (length form_key + length (decimal 1)) }
+  form_made : form_line whole_text ≡ record
+      { good = true; value = 1; size = suc (length form_key + length (decimal 1)) }
   unfolding whole_text
   form_made = number_line_made form_key tri_text 1 refl (omega arith)
 

@@ -7,8 +7,7 @@
 --   head_rungs text        the checks of a record that come before 2
 use Rattle.std.specs.Prelude.{Bool, true, List, [], ◌∷◌, ◌*◌, ℕ, eqb, ltb, get_or, length}
 use Rattle.record.specs.Record.{form_key, gate_key, sym_key, tri_key}
-use Rattle.text.specs.Line.{after, is_keyed, number_line, value_of}
-use Rattle.text.specs.declared.NumberLine.{NumberLine}
+use Rattle.text.specs.Line.{NumberLine, after, is_keyed, number_line, value_of}
 use Rattle.theory.specs.Answer.{Rung, count_rung, each, whole}
 
 abbrev pub after1 : List ℕ → List ℕ
@@ -40,7 +39,8 @@ letters text = value_of sym_key (after3 text)
 
 abbrev pub line_tests : List ℕ → List Bool
 line_tests text =
-    (form_line text).good ∷ (tri_line text).good ∷ (gate_line text).good ∷ is_sym_line text ∷ eqb (length (after4 text)) 0 ∷ []
+    (form_line text).good ∷ (tri_line text).good ∷ (gate_line text).good ∷ is_sym_line text
+    ∷ eqb (length (after4 text)) 0 ∷ []
 
 unfoldable pub well_formed_at : List ℕ → ℕ → Bool
 well_formed_at text i = get_or (line_tests text) i true

@@ -2,12 +2,13 @@
 --
 --   decimal_small decimal_big   one digit; the digits of n / 10 and one more
 --   decimal_induction           by the number's last digit
---   decimal_length              a number below 10 ^ k has at most k digits; decimal_word: a u32 at most 10
+--   decimal_count decimal_length decimal_word   how many digits a number has, from the powers of 10 around it; a u32 at most 10
 --   decimal_digits decimal_value decimal_leads   its digits are digits, make the number, and begin with 0 only for 0
 use mathlib.Core.Bool.{Bool, ◌&&◌, false, true}
 use mathlib.Core.List.{List, [], ◌++◌, ◌∷◌}
 use mathlib.Core.Path.{◌∙◌, ◌≡◌, refl, sym}
-use Prim.Native.Nat.{◌%◌, ◌*◌, ◌+◌, ◌-◌, ◌/◌, ◌<◌, ◌≤◌, suc, zero, ℕ}
+use Prim.Native.Nat.{◌%◌, ◌*◌, ◌+◌, ◌-◌, ◌/◌, ◌<◌, ◌≤◌, ◌^◌, suc, zero, ℕ}
+use Rattle.std.proofs.Math.Nat.{one-le-pow, pow-suc}
 use native.Mathlib.Decide.{dec_lt, ℕ_discrete}
 use native.Mathlib.Omega.{arith}
 use lib.Dec.{leb}
@@ -58,11 +59,6 @@ decimal_induction P small big = strong P step
 
 -- ---- how many
 
--- 10 ^ k
-abbrev pub tens : ℕ → ℕ
-tens zero = 1
-tens (suc k) = 10 * tens k
-
 pub decimal_some : (n : ℕ) → 1 ≤ length (decimal n)
 decimal_some n = go (dec_lt n 10)
   where
@@ -76,13 +72,23 @@ decimal_more n h = rw (decimal_big n h) (length-append (decimal (n / 10)) ((48 +
 pub decimal_one : (n : ℕ) → n < 10 → length (decimal n) ≡ 1
 decimal_one n h = rw (decimal_small n h)
 
-pub decimal_length : (k n : ℕ) → n < tens (suc k) → length (decimal n) ≤ suc k
+-- a number from 10 ^ k up to 10 ^ (k + 1) has k + 1 digits, a smaller one no more
+pub decimal_count : (k n : ℕ) → 10 ^ k ≤ n → n < 10 * 10 ^ k → k + 1 ≡ length (decimal n)
+decimal_count zero n h g = omega (arith, decimal_one n (omega arith))
+decimal_count (suc k) n h g =
+    let p = pow-suc 10 k in
+    let q = one-le-pow k 10 (omega arith) in
+    omega (arith, decimal_more n (omega arith), decimal_count k (n / 10) (omega arith) (omega arith))
+
+pub decimal_length : (k n : ℕ) → n < 10 ^ suc k → length (decimal n) ≤ suc k
 decimal_length zero n h = omega (arith, decimal_one n (omega arith))
 decimal_length (suc k) n h = go (dec_lt n 10) (decimal_length k (n / 10))
   where
-    go : Dec (n < 10) → (n / 10 < tens (suc k) → length (decimal (n / 10)) ≤ suc k) → length (decimal n) ≤ suc (suc k)
+    go : Dec (n < 10) → (n / 10 < 10 ^ suc k → length (decimal (n / 10)) ≤ suc k) → length (decimal n) ≤ suc (suc k)
     go (yes l) ih = omega (arith, decimal_one n l)
-    go (no l) ih = omega (arith, decimal_more n (omega arith), ih (omega arith))
+    go (no l) ih =
+        let p = pow-suc 10 (suc k) in
+        omega (arith, decimal_more n (omega arith), ih (omega arith))
 
 pub decimal_word : (n : ℕ) → n < 4294967296 → length (decimal n) ≤ 10
 decimal_word n h = decimal_length 9 n (omega arith)

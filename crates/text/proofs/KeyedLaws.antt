@@ -2,7 +2,7 @@
 --
 --   keyed_split keyed_lacks     a keyed line is its key, its value and its end, and has no end before that
 --   keyed_made value_of_made keyed_after keyed_up   the same from a key and a value
---   keyed_open keyed_other keyed_here   the reader's answer
+--   keyed_open keyed_ends               what the code answers, from where the line ends
 --   size_none size_some size_keyed      what its size says of a line
 use mathlib.Core.Bool.{Bool, cond, false, true}
 use mathlib.Core.List.{List, [], ◌++◌, ◌∷◌, append_assoc}
@@ -10,11 +10,13 @@ use mathlib.Core.Path.{◌∙◌, ◌≡◌, ap, refl, subst, sym}
 use Prim.Native.Nat.{◌+◌, ◌<◌, ◌≤◌, suc, ℕ}
 use native.Mathlib.Omega.{arith}
 use lib.Dec.{eqb, ltb}
-use lib.ListN.{drop, length, length-append}
+use lib.ListN.{drop, length, take, length-append}
 use lib.Seq.{drop-append_seam, length-take-le}
 use borrow.Author.Tests.{eq-eqb, eqb-true, le-ltb, lt-ltb, ltb-true}
-use Rattle.text.proofs.LineLaws.{after_made, ended_made, lacks_append, line_lacks, line_made, up_le, up_made, up_split}
-use Rattle.text.specs.Line.{after, is_keyed, keyed_size, lacks, line, line_end, starts, up_to, value_of}
+use Rattle.text.proofs.LineLaws.{after_made, ended_made, lacks_append, line_lacks, line_made, starts_key, up_le, up_made, up_split}
+use Rattle.std.specs.Prelude.{None, Some}
+use Rattle.std.specs.List.{starts_with}
+use Rattle.text.specs.Line.{after, is_keyed, keyed_size, lacks, line, line_end, some_size, starts, up_to, value_of}
 use Rattle.theory.proofs.TestLaws.{and_left, and_right}
 
 -- ---- keys
@@ -25,7 +27,7 @@ starts_made (k ∷ key) v = rw (eq-eqb k k refl) (starts_made key v)
 
 pub starts_split : (key l : List ℕ) → starts key l ≡ true → l ≡ key ++ drop (length key) l
 starts_split [] l e = refl
-starts_split (k ∷ key) [] e = absurd (let z : ◌≡◌ {A = ℕ} 0 1 = cc in omega arith)
+starts_split (k ∷ key) [] e = cc
 starts_split (k ∷ key) (x ∷ l) e = cons (eqb-true x k (and_left (eqb x k) (starts key l) e))
     (starts_split key l (and_right (eqb x k) (starts key l) e))
   where
@@ -88,17 +90,21 @@ module _ (key v r : List ℕ) (hk : lacks line_end key ≡ true) (hv : lacks lin
 -- ---- sizes of keyed lines
 
 module _ (key l : List ℕ) where
-  pub keyed_open : length l ≤ up_to line_end l → 0 ≡ keyed_size key l
+  -- the line is not ended, or ends at n
+  pub keyed_open : up_to line_end l ≡ length l → None ≡ some_size (keyed_size key l)
   unfolding keyed_size is_keyed
-  keyed_open h = rw (le-ltb (up_to line_end l) (length l) h)
+  keyed_open e = rw (le-ltb (up_to line_end l) (length l) (omega arith))
 
-  pub keyed_other : up_to line_end l < length l → starts key (line l) ≡ false → 0 ≡ keyed_size key l
+  pub keyed_ends : (n : ℕ) → (n ≡ up_to line_end l) × (n < length l) → (t : Bool) → t ≡ starts_with eqb (take n l) key
+      → cond t (Some (n + 1)) None ≡ some_size (keyed_size key l)
   unfolding keyed_size is_keyed
-  keyed_other h e = rw (lt-ltb (up_to line_end l) (length l) h, e)
-
-  pub keyed_here : up_to line_end l < length l → starts key (line l) ≡ true → suc (up_to line_end l) ≡ keyed_size key l
-  unfolding keyed_size is_keyed
-  keyed_here h e = rw (lt-ltb (up_to line_end l) (length l) h, e)
+  keyed_ends n h t e =
+      let q : t ≡ starts key (line l) = e ∙ starts_key key (take n l) ∙ ap (λ (k : ℕ). starts key (take k l)) h.0 in
+      rw (lt-ltb (up_to line_end l) (length l) (omega arith), ← q) (go t)
+    where
+      go : (t : Bool) → cond t (Some (n + 1)) None ≡ some_size (cond t (suc (up_to line_end l)) 0)
+      go true = ap Some (let k : n + 1 ≡ suc (up_to line_end l) = omega arith in k)
+      go false = refl
 
   -- what its size says of a line
   pub size_none : keyed_size key l ≡ 0 → is_keyed key l ≡ false

@@ -1,6 +1,7 @@
 -- Laws of lines.
 --
---   up-* starts-*               the turns of the two loops
+--   up_position starts_key      `up_to` and `starts` in the words of std
+--   Found found_up found_or     what a search for a byte says of `up_to`
 --   lacks_append lacks_digits   where a byte is absent
 --   line_made after_made ended_made   the first line of a line before a text
 --   up_split line_lacks         a text is what stands before its first b, b, and what follows
@@ -8,18 +9,22 @@ use mathlib.Core.Bool.{Bool, ◌&&◌, cond, false, not, true}
 use mathlib.Core.List.{List, [], ◌++◌, ◌∷◌, append_assoc}
 use mathlib.Core.Path.{◌∙◌, ◌≡◌, ap, refl, sym}
 use Prim.Native.Nat.{◌+◌, ◌<◌, ◌≤◌, suc, ℕ}
-use native.Mathlib.Numerals.{add-one}
+use native.Mathlib.Decide.{dec_lt, ℕ_discrete}
 use native.Mathlib.Omega.{arith}
 use lib.Dec.{eqb, ltb}
-use lib.ListN.{drop, drop_of_length-le, get_or, length, length-append, take}
-use lib.Seq.{drop_at, drop-cons, take-append_seam}
-use borrow.Author.Tests.{eq-eqb, eqb-true, lt-ltb, ne_eqb}
+use lib.ListN.{drop, length, length-append, take}
+use lib.Seq.{drop_at, take-append_seam}
+use borrow.Author.Tests.{eq-eqb, eqb-true, le-ltb, lt-ltb, ne_eqb}
+use Rattle.std.specs.Prelude.{MatchOption, None, Option, Some}
+use Rattle.std.specs.List.{position, position_or_len, starts_with}
+use Rattle.std.specs.Option.{unwrap_or}
+use Rattle.std.proofs.lemmas.List.Recursion.{is_position_or_len}
 use Rattle.text.proofs.DecimalLaws.{digit_low}
 use Rattle.text.specs.Decimal.{all_digits, is_digit}
 use Rattle.text.specs.Line.{after, lacks, line, line_end, starts, up_to}
 use Rattle.theory.proofs.TestLaws.{and_left, and_right}
 
--- ---- the loop that looks for a byte
+-- ---- the first of a byte, and a key
 
 pub up_le : (b : ℕ) (l : List ℕ) → up_to b l ≤ length l
 up_le b [] = omega arith
@@ -29,32 +34,38 @@ up_le b (x ∷ l) = go (eqb x b) (up_le b l)
     go true ih = omega arith
     go false ih = omega arith
 
-module _ (b : ℕ) (s : List ℕ) (i : ℕ) where
-  pub up_turn : i < length s → (get_or s i 0 ≡ b → ⊥) → up_to b s ≡ i + up_to b (drop i s)
-      → up_to b s ≡ i + 1 + up_to b (drop (i + 1) s)
-  up_turn h n e = rw (add-one i) (omega (arith, rw (drop-cons s i 0 h, ne_eqb (get_or s i 0) b n) at e))
+pub up_position : (b : ℕ) (l : List ℕ) → position_or_len (λ x. eqb x b) l ≡ up_to b l
+up_position b l = sym (is_position_or_len (up_to b) (λ x. eqb x b) refl step l)
+  where
+    step : (x : ℕ) (xs : List ℕ) → up_to b (x ∷ xs) ≡ cond (eqb x b) 0 (1 + up_to b xs)
+    step x xs = let q : 1 + up_to b xs ≡ suc (up_to b xs) = omega arith in rw q
 
-  pub up_stop : i < length s → get_or s i 0 ≡ b → up_to b s ≡ i + up_to b (drop i s) → i ≡ up_to b s
-  up_stop h q e = omega (arith, rw (drop-cons s i 0 h, eq-eqb (get_or s i 0) b q) at e)
+-- a search for b that found it at n, or not at all
+abbrev pub Found : ℕ → List ℕ → Option ℕ → Type 0
+Found b l r = MatchOption r (up_to b l ≡ length l) (λ n. (n ≡ up_to b l) × (n < length l))
 
-  pub up_end : length s ≤ i → up_to b s ≡ i + up_to b (drop i s) → i ≡ up_to b s
-  up_end h e = omega (arith, rw (drop_of_length-le s h) at e)
+pub found_up : (b : ℕ) (l : List ℕ) (r : Option ℕ) → r ≡ position (λ x. eqb x b) l → Found b l r
+found_up b l r e = rw (e, up_position b l) (go (dec_lt (up_to b l) (length l)))
+  where
+    go : Dec (up_to b l < length l) → Found b l (cond (ltb (up_to b l) (length l)) (Some (up_to b l)) None)
+    go (yes h) = rw (lt-ltb (up_to b l) (length l) h) (refl, h)
+    go (no h) = rw (le-ltb (up_to b l) (length l) (omega arith)) (omega (arith, up_le b l))
 
--- ---- the loop that compares with a key
+pub found_or : (b : ℕ) (l : List ℕ) (r : Option ℕ) → Found b l r → unwrap_or r (length l) ≡ up_to b l
+found_or b l (Some n) h = h.0
+found_or b l None h = sym h
 
-module _ (key s : List ℕ) (i : ℕ) (e : starts key s ≡ starts (drop i key) (drop i s)) where
-  pub starts_short : i < length key → length s ≤ i → false ≡ starts key s
-  starts_short h k = sym (e ∙ rw (drop-cons key i 0 h, drop_of_length-le s {i = i} k))
+eqb_turned : (x k : ℕ) → eqb k x ≡ eqb x k
+eqb_turned x k = go (ℕ_discrete x k)
+  where
+    go : Dec (x ≡ k) → eqb k x ≡ eqb x k
+    go (yes e) = rw e
+    go (no n) = ne_eqb k x (λ e. n (sym e)) ∙ sym (ne_eqb x k n)
 
-  pub starts_differ : i < length key → i < length s → (get_or s i 0 ≡ get_or key i 0 → ⊥) → false ≡ starts key s
-  starts_differ h k n = sym (e ∙ rw (drop-cons key i 0 h, drop-cons s i 0 k, ne_eqb (get_or s i 0) (get_or key i 0) n))
-
-  pub starts_next : i < length key → i < length s → get_or s i 0 ≡ get_or key i 0
-      → starts key s ≡ starts (drop (i + 1) key) (drop (i + 1) s)
-  starts_next h k q = e ∙ rw (add-one i, drop-cons key i 0 h, drop-cons s i 0 k, eq-eqb (get_or s i 0) (get_or key i 0) q)
-
-  pub starts_end : length key ≤ i → true ≡ starts key s
-  starts_end h = sym (e ∙ rw (drop_of_length-le key {i = i} h))
+pub starts_key : (key l : List ℕ) → starts_with eqb l key ≡ starts key l
+starts_key [] l = refl
+starts_key (k ∷ key) [] = refl
+starts_key (k ∷ key) (x ∷ l) = rw (eqb_turned x k, starts_key key l)
 
 -- ---- lines
 
@@ -79,10 +90,7 @@ up_made b (x ∷ v) r h = go (eqb x b) h (up_made b v r)
   where
     go : (t : Bool) → (not t && lacks b v) ≡ true → (lacks b v ≡ true → up_to b (v ++ b ∷ r) ≡ length v)
         → cond t 0 (suc (up_to b (v ++ b ∷ r))) ≡ suc (length v)
-    go true e ih = absurd (no_true e)
-      where
-        no_true : false ≡ true → ⊥
-        no_true e = let z : ◌≡◌ {A = ℕ} 0 1 = cc in omega arith
+    go true e ih = cc
     go false e ih = ap suc (ih e)
 
 pub line_lacks : (b : ℕ) (l : List ℕ) → lacks b (take (up_to b l) l) ≡ true

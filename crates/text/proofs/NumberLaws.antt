@@ -1,18 +1,18 @@
 -- Laws of numbers as they are read.
 --
 --   number_good number_small    an accepted text is the decimal of its number, which is below 10 ^ 7
---   number_text                 the same for what the reader answers
---   number_empty number_long number_zero number_digits   the reader's tests, one after another
+--   number_text                 the same for what the reader answers; number_tested: its tests
 use mathlib.Core.Bool.{Bool, ◌&&◌, cond, false, true}
 use mathlib.Core.List.{List, [], ◌++◌, ◌∷◌}
 use mathlib.Core.Path.{◌∙◌, ◌≡◌, ap, refl, sym}
-use Prim.Native.Nat.{◌%◌, ◌*◌, ◌+◌, ◌-◌, ◌/◌, ◌<◌, ◌≤◌, suc, zero, ℕ}
+use Prim.Native.Nat.{◌%◌, ◌*◌, ◌+◌, ◌-◌, ◌/◌, ◌<◌, ◌≤◌, ◌^◌, suc, ℕ}
+use Rattle.std.proofs.Math.Nat.{pow-le-pow_right, pow-suc}
 use native.Mathlib.Decide.{ℕ_discrete}
 use native.Mathlib.Omega.{arith}
 use lib.Dec.{leb}
 use lib.ListN.{get_or, length}
-use borrow.Author.Tests.{eq-eqb, le-leb, leb-true, lt-leb}
-use Rattle.text.proofs.DecimalLaws.{all_digits_append, decimal_big, decimal_small, digit_high, digit_low, tens, value_after_snoc}
+use borrow.Author.Tests.{eq-eqb, leb-true}
+use Rattle.text.proofs.DecimalLaws.{all_digits_append, decimal_big, decimal_small, digit_high, digit_low, value_after_snoc}
 use Rattle.text.proofs.Induction.{snoc_induction}
 use Rattle.text.specs.Decimal.{all_digits, decimal, digits_after, found, is_digit, is_number, leads_well, missing, number, value, value_after}
 use Rattle.theory.proofs.TestLaws.{and_left, and_right}
@@ -98,8 +98,8 @@ number_good l e = go l some leads digits (ℕ_discrete (get_or l 0 0) 48)
 
 -- ---- how large
 
-pub value_bound : (l : List ℕ) (i k n : ℕ) → all_digits l ≡ true → n < tens i → k ≡ i + length l
-    → value_after n l < tens k
+pub value_bound : (l : List ℕ) (i k n : ℕ) → all_digits l ≡ true → n < 10 ^ i → k ≡ i + length l
+    → value_after n l < 10 ^ k
 value_bound [] i k n a h e =
     let q : k ≡ i = omega arith in
     rw q h
@@ -107,19 +107,8 @@ value_bound (x ∷ l) i k n a h e =
     let d : is_digit x ≡ true = and_left (is_digit x) (all_digits l) a in
     let low : 48 ≤ x = digit_low x d in
     let high : x ≤ 57 = digit_high x d in
+    let p = pow-suc 10 i in
     value_bound l (suc i) k (n * 10 + (x - 48)) (and_right (is_digit x) (all_digits l) a) (omega arith) (omega arith)
-
-pub tens_mono : (j i k : ℕ) → k ≡ j + i → tens i ≤ tens k
-tens_mono zero i k e =
-    let q : k ≡ i = omega arith in
-    rw q (omega arith)
-tens_mono (suc j) i k e = omega (arith, tens_mono j i (j + i) refl, grow (j + i) k (omega arith))
-  where
-    grow : (m k : ℕ) → k ≡ suc m → tens m ≤ tens k
-    grow m k e = rw e (omega arith)
-
-pub tens_seven : (i : ℕ) → i ≤ 7 → tens i ≤ 10000000
-tens_seven i h = tens_mono (7 - i) i 7 (omega arith)
 
 pub number_small : (l : List ℕ) → is_number l ≡ true → value l < 10000000
 unfolding is_number
@@ -128,7 +117,7 @@ number_small l e =
     (and_left (leb (length l) 7) _ (and_right (leb 1 (length l)) _ e)) in
     let digits : all_digits l ≡ true = and_right (leads_well l) (all_digits l)
     (and_right (leb (length l) 7) _ (and_right (leb 1 (length l)) _ e)) in
-    omega (arith, value_bound l 0 (length l) 0 digits (omega arith) (omega arith), tens_seven (length l) seven)
+    omega (arith, value_bound l 0 (length l) 0 digits (omega arith) (omega arith), pow-le-pow_right {n = 10} (omega arith) seven)
 
 -- ---- what the reader answers
 
@@ -147,23 +136,15 @@ good_value l e = rw (good_test l true e)
 pub number_text : (l : List ℕ) → (number l).good ≡ true → decimal (number l).value ≡ l
 number_text l e = ap decimal (good_value l e) ∙ number_good l (good_test l true e)
 
--- ---- the reader's tests, one after another
-
-module _ (l : List ℕ) where
-  pub number_empty : length l < 1 → missing ≡ number l
-  unfolding number is_number
-  number_empty h = rw (lt-leb 1 (length l) h)
-
-  module _ (some : 1 ≤ length l) where
-    pub number_long : 7 < length l → missing ≡ number l
-    unfolding number is_number
-    number_long h = rw (le-leb 1 (length l) some, lt-leb (length l) 7 h)
-
-    module _ (seven : length l ≤ 7) where
-      pub number_zero : leads_well l ≡ false → missing ≡ number l
-      unfolding number is_number
-      number_zero e = rw (le-leb 1 (length l) some, le-leb (length l) 7 seven, e)
-
-      pub number_digits : leads_well l ≡ true → digits_after 0 l ≡ number l
-      unfolding number is_number digits_after
-      number_digits e = rw (le-leb 1 (length l) some, le-leb (length l) 7 seven, e)
+-- the reader's tests, and then the digits
+pub number_tested : (l : List ℕ)
+    → number l ≡ cond (leb 1 (length l) && (leb (length l) 7 && leads_well l)) (digits_after 0 l) missing
+unfolding number is_number digits_after
+number_tested l = go (leb 1 (length l)) (leb (length l) 7) (leads_well l)
+  where
+    go : (p q r : Bool) → cond (p && (q && (r && all_digits l))) (found (value l)) missing
+        ≡ cond (p && (q && r)) (cond (all_digits l) (found (value_after 0 l)) missing) missing
+    go true true true = refl
+    go true true false = refl
+    go true false r = refl
+    go false q r = refl

@@ -2,7 +2,7 @@
 --
 --   number_line_made            read from what was written
 --   number_line_split good-*    an accepted line is its key, the decimal of its number, and its end
---   line_none line_bad line_good   the reader's answer, from the part that the code lends
+--   line_none line_bad line_good   what the code answers, from the part that it lends; lines: all that it asks
 use mathlib.Core.Bool.{Bool, ◌&&◌, cond, false, true}
 use mathlib.Core.List.{List, ◌++◌, ◌∷◌}
 use mathlib.Core.Path.{◌∙◌, ◌≡◌, ap, refl, sym}
@@ -13,11 +13,11 @@ use Rattle.text.proofs.DecimalLaws.{decimal_digits, decimal_value, is_number_dec
 use Rattle.text.proofs.KeyedLaws.{keyed_ended, keyed_fits, keyed_made, keyed_split, keyed_up, size_keyed, size_none, size_some, value_of_made}
 use Rattle.text.proofs.LineLaws.{lacks_digits}
 use Rattle.text.proofs.NumberLaws.{good_test, good_value, number_good, number_small}
+use Rattle.std.specs.Prelude.{None, Option, Some}
+use Rattle.text.proofs.Answered.{none_number, none_size, the_number, the_size}
 use Rattle.text.proofs.Parts.{drop_take}
-use Rattle.text.specs.Decimal.{decimal, is_number, number, value}
-use Rattle.text.specs.Line.{after, bad_line, is_keyed, keyed_size, lacks, line_end, number_line, up_to, value_of}
-use Rattle.text.specs.declared.Number.{Number}
-use Rattle.text.specs.declared.NumberLine.{NumberLine}
+use Rattle.text.specs.Decimal.{decimal, is_number, number, some_number, value}
+use Rattle.text.specs.Line.{NumberLine, after, bad_line, is_keyed, keyed_size, lacks, line_end, number_line, some_line, some_size, up_to, value_of}
 use Rattle.theory.proofs.TestLaws.{and_left, and_right}
 
 -- ---- lines with numbers
@@ -36,10 +36,6 @@ number_line_made key r n hk h =
       keyed_up key (decimal n) r hk hv,
     )
 
-pub number_line_bad : (key l : List ℕ) → is_keyed key l ≡ false → bad_line ≡ number_line key l
-unfolding number_line
-number_line_bad key l e = rw e
-
 -- an accepted line is its key, the decimal of its number, and its end
 pub record GoodLine (key l : List ℕ) : Type 0 where
   pub keyed : is_keyed key l ≡ true
@@ -57,7 +53,7 @@ number_line_split key l e = go ((is_keyed key l && is_number (value_of key l))) 
       numeric = and_right
           (is_keyed key l) (is_number (value_of key l)) q;
     }
-    go false q e = absurd (let z : ◌≡◌ {A = ℕ} 0 1 = cc in omega arith)
+    go false q e = cc
 
 module _ (key l : List ℕ) (good : GoodLine key l) where
   pub good_answer : number_line key l ≡ record
@@ -82,40 +78,50 @@ module _ (key l : List ℕ) (good : GoodLine key l) where
 
 -- ---- the number of a keyed line, from the part that the code lends
 
-module _ (key l : List ℕ) (n : ℕ) (e : n ≡ keyed_size key l) where
-  pub line_none : n ≡ 0 → bad_line ≡ number_line key l
-  line_none z = number_line_bad key l (size_none key l (sym e ∙ z))
+-- a size is that of a keyed line
+pub is_keyed_lem : (key l : List ℕ) (n : ℕ) → n ≡ keyed_size key l → (n ≡ 0 → ⊥) → is_keyed key l ≡ true
+is_keyed_lem key l n e some = size_some key l (λ z. some (e ∙ z))
 
-  module _ (some : n ≡ 0 → ⊥) where
-    is_keyed_lem : is_keyed key l ≡ true
-    is_keyed_lem = size_some key l (λ z. some (e ∙ z))
+module _ (key l : List ℕ) where
+  pub line_none : None ≡ some_size (keyed_size key l) → None ≡ some_line (number_line key l)
+  unfolding number_line
+  line_none e = rw (size_none key l (none_size (keyed_size key l) e))
+
+  module _ (n : ℕ) (e : Some n ≡ some_size (keyed_size key l)) where
+    here : (n ≡ keyed_size key l) × (keyed_size key l ≡ 0 → ⊥)
+    here = the_size (keyed_size key l) n e
+
+    found_keyed : is_keyed key l ≡ true
+    found_keyed = size_some key l here.1
 
     line_size : n ≡ suc (up_to line_end l)
-    line_size = e ∙ size_keyed key l is_keyed_lem
+    line_size = here.0 ∙ size_keyed key l found_keyed
 
     pub line_start : length key ≤ n - 1
-    line_start = omega (arith, line_size, keyed_fits key l is_keyed_lem)
+    line_start = omega (arith, line_size, keyed_fits key l found_keyed)
 
     pub line_stop : n ≤ length l
-    line_stop = omega (arith, line_size, keyed_ended key l is_keyed_lem)
+    line_stop = omega (arith, line_size, keyed_ended key l found_keyed)
 
-    module _ (a : Number) (q : a ≡ number (take (n - 1 - length key) (drop (length key) l))) where
-      value_read : a ≡ number (value_of key l)
+    module _ (r : Option ℕ) (q : r ≡ some_number (number (take (n - 1 - length key) (drop (length key) l)))) where
+      value_read : r ≡ some_number (number (value_of key l))
       value_read =
           let k : n - 1 ≡ up_to line_end l = omega (arith, line_size) in
-          q ∙ ap number (sym (drop_take (length key) (n - 1) l) ∙ ap (λ (m : ℕ). drop (length key) (take m l)) k)
+          let part : List ℕ → Option ℕ = λ m. some_number (number m) in
+          q ∙ ap part (sym (drop_take (length key) (n - 1) l) ∙ ap (λ (m : ℕ). drop (length key) (take m l)) k)
 
-      pub line_bad : a.good ≡ false → bad_line ≡ number_line key l
+      pub line_bad : r ≡ None → None ≡ some_line (number_line key l)
       unfolding number_line
-      line_bad g = rw (is_keyed_lem, good_test (value_of key l) false (sym (ap (λ (x : Number). x.good) value_read) ∙ g))
+      line_bad g =
+          let bad = none_number (number (value_of key l)) (sym g ∙ value_read) in
+          rw (found_keyed, good_test (value_of key l) false bad)
 
-      pub line_good : a.good ≡ true → record { good = true; value = a.value; size = n } ≡ number_line key l
+      pub line_good : (v : ℕ) → r ≡ Some v → Some (record { value = v; size = n }) ≡ some_line (number_line key l)
       unfolding number_line
-      line_good g =
-          rw (
-            is_keyed_lem,
-            good_test (value_of key l) true (sym (ap (λ (x : Number). x.good) value_read) ∙ g),
-            line_size,
-            ap (λ (x : Number). x.value) value_read,
-            good_value (value_of key l) (sym (ap (λ (x : Number). x.good) value_read) ∙ g),
-          )
+      line_good v g =
+          let good = the_number (number (value_of key l)) v (sym g ∙ value_read) in
+          let read : v ≡ value (value_of key l) = good.1 ∙ good_value (value_of key l) good.0 in
+          rw (found_keyed, good_test (value_of key l) true good.0, line_size, read)
+
+-- what the code asks of them
+pub ruleset lines = (line_none, line_start, line_stop, line_bad, line_good)

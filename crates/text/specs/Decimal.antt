@@ -4,8 +4,8 @@
 --   value l       the number that the digits l make
 --   is_number l    l is 1 to 7 digits, with no leading zero except 0 itself
 --   number l      what a reader answers: the number, or that l is none
-use Rattle.std.specs.Prelude.{Bool, ◌&&◌, cond, false, true, List, [], ◌++◌, ◌∷◌, ◌%◌, ◌*◌, ◌+◌, ◌-◌, ◌/◌, suc, zero, ℕ, eqb, leb, ltb, get_or, length}
-use Rattle.text.specs.declared.Number.{Number}
+--   some_number a the number of such an answer, or none
+use Rattle.std.specs.Prelude.{Bool, ◌&&◌, cond, false, true, List, [], ◌++◌, ◌∷◌, ◌%◌, ◌*◌, ◌+◌, ◌-◌, ◌/◌, suc, zero, ℕ, eqb, leb, ltb, get_or, length, Option, Some, None}
 
 -- ---- writing
 
@@ -18,6 +18,13 @@ unfoldable pub decimal : ℕ → List ℕ
 decimal n = decimal_in n n
 
 -- ---- reading
+
+pub record Number : Type 0 where
+  pub good : Bool
+  pub value : ℕ
+
+abbrev pub some_number : Number → Option ℕ
+some_number a = cond a.good (Some a.value) None
 
 abbrev pub is_digit : ℕ → Bool
 is_digit b = leb 48 b && leb b 57

@@ -6,9 +6,10 @@
 --   is_keyed key l        the first line of l is ended and begins with key
 --   value_of key l        what stands behind the key in the first line
 --   number_line key l     the first line is key and a number: the number and the line's size with its end
-use Rattle.std.specs.Prelude.{Bool, ◌&&◌, cond, false, not, true, List, [], ◌∷◌, suc, ℕ, eqb, ltb, drop, length, take}
+--   some_size n, some_line a   the same as the code answers them, or none
+use Rattle.std.specs.Prelude.{Bool, ◌&&◌, cond, false, not, true, List, [], ◌∷◌, suc, zero, ℕ, eqb, ltb, drop, length, take, Option, Some, None}
 use Rattle.text.specs.Decimal.{is_number, value}
-use Rattle.text.specs.declared.NumberLine.{NumberLine}
+use Rattle.text.specs.declared.KeyedNumber.{KeyedNumber}
 
 abbrev pub up_to : ℕ → List ℕ → ℕ
 up_to b [] = 0
@@ -40,8 +41,20 @@ is_keyed key l = ltb (up_to line_end l) (length l) && starts key (line l)
 unfoldable pub keyed_size : List ℕ → List ℕ → ℕ
 keyed_size key l = cond (is_keyed key l) (suc (up_to line_end l)) 0
 
+abbrev pub some_size : ℕ → Option ℕ
+some_size zero = None
+some_size (suc n) = Some (suc n)
+
 abbrev pub value_of : List ℕ → List ℕ → List ℕ
 value_of key l = drop (length key) (line l)
+
+pub record NumberLine : Type 0 where
+  pub good : Bool
+  pub value : ℕ
+  pub size : ℕ
+
+abbrev pub some_line : NumberLine → Option KeyedNumber
+some_line a = cond a.good (Some (record { value = a.value; size = a.size })) None
 
 abbrev pub bad_line : NumberLine
 bad_line = record { good = false; value = 0; size = 0 }

@@ -1,8 +1,11 @@
 -- A text written into a buffer.
 --
 --   put out at s               out, with s from the place at on in the place of what stood there
---   Wrote before at s after r   what a writer promises: put, and the place behind
-use Rattle.std.specs.Prelude.{List, ◌++◌, ◌≡◌, ◌+◌, ℕ, drop, length, take}
+--   Wrote before at s after r   s was put, and the place behind it is r
+--   Room w s                    there is room for s where the writer w stands
+--   Writes before s after       the same of a writer: it keeps its buffer
+use Rattle.std.specs.Prelude.{List, ◌++◌, ◌≡◌, ◌+◌, ◌≤◌, ℕ, drop, length, take}
+use Rattle.text.specs.declared.Writer.{Writer}
 
 unfoldable pub put : List ℕ → ℕ → List ℕ → List ℕ
 put out at s = take at out ++ (s ++ drop (at + length s) out)
@@ -11,3 +14,12 @@ put out at s = take at out ++ (s ++ drop (at + length s) out)
 pub record Wrote (before : List ℕ) (at : ℕ) (s after : List ℕ) (r : ℕ) : Type 0 where
   pub place : r ≡ at + length s
   pub text : after ≡ put before at s
+
+abbrev pub Room : Writer → List ℕ → Type 0
+Room w s = w.at + length s ≤ length w.out.now
+
+pub record Writes (before : Writer) (s : List ℕ) (after : Writer) : Type 0 where
+  pub same_buffer : after.out.ghost_name ≡ before.out.ghost_name
+  pub same_length : length after.out.now ≡ length before.out.now
+  pub inside : after.at ≤ length after.out.now
+  pub wrote : Wrote before.out.now before.at s after.out.now after.at

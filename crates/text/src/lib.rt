@@ -1,20 +1,14 @@
 // Decimal numbers and ended lines, read from slices and written into them.
 #![tactic(auto)]
 
-ghost use Rattle.std.specs.Prelude.{◌≡◌, ◌+◌, ◌≤◌, ◌<◌, length};
-ghost use Rattle.text.specs.Decimal.{decimal, number, leads_well, digits_after};
-ghost use Rattle.text.specs.Line.{up_to, starts, keyed_size, number_line};
-ghost use Rattle.text.specs.Put.{Wrote};
+ghost use Rattle.std.specs.Prelude.{◌≡◌, ◌+◌, ◌≤◌, ◌<◌, ◌==◌, length, position};
+ghost use Rattle.text.specs.Decimal.{decimal, number, digits_after, leads_well, some_number};
+ghost use Rattle.text.specs.Line.{up_to, keyed_size, number_line, some_size, some_line};
+ghost use Rattle.text.specs.Put.{Room, Writes};
 
-#[derive(Clone, Copy)]
-pub struct Number {
-    pub good: bool,
-    pub value: u32,
-}
-
-#[derive(Clone, Copy)]
-pub struct NumberLine {
-    pub good: bool,
+// The number of a line `key=number`, and how many bytes the line has with its end.
+#[derive(Clone, Copy, Debug, PartialEq, Eq)]
+pub struct KeyedNumber {
     pub value: u32,
     pub size: usize,
 }
@@ -22,126 +16,106 @@ pub struct NumberLine {
 // ---- writing
 
 // How many digits n has.
+#[tactic(auto, using(crate::proofs::DecimalLaws::decimal_count, crate::proofs::DecimalLaws::decimal_one))]
 pub fn decimal_length(n: u32) -> usize
     ensures { result ≡ length (decimal n) }
 {
-    let mut m = n;
-    let mut k = 1;
-    while 10 <= m {
-        m /= 10;
-        k += 1;
+    match n.checked_ilog10() {
+        Some(k) => k as usize + 1,
+        None => 1,
     }
-    k
 }
 
-// Writes the digits of n from the place `at` on; answers the place behind them.
-pub fn write_decimal(out: &mut [u8], at: usize, n: u32) -> usize
-    requires { at + length (decimal n) ≤ length out.old }
-    ensures { Wrote out.old at (decimal n) out.new result }
-{
-    let end = at + decimal_length(n);
-    let mut i = end - 1;
-    let mut m = n;
-    while 10 <= m {
-        out[i] = digit(m % 10);
-        m /= 10;
-        i -= 1;
-    }
-    out[i] = digit(m);
-    end
+// A buffer that is written, and the place in it behind what was written.
+#[derive(Drop)]
+pub struct Writer<'a> {
+    out: &'a mut [u8],
+    at: usize,
 }
 
-fn digit(d: u32) -> u8
-    requires { d < 10 }
-    ensures { result ≡ 48 + d }
-{
-    48 + d as u8
-}
-
-// Copies s to the place `at`; answers the place behind it.
-pub fn write_bytes(out: &mut [u8], at: usize, s: &[u8]) -> usize
-    requires { at + length s.now ≤ length out.old }
-    ensures { Wrote out.old at s.now out.new result }
-{
-    let mut i = 0;
-    while i < s.len() {
-        out[at + i] = s[i];
-        i += 1;
+impl<'a> Writer<'a> {
+    pub fn new(out: &'a mut [u8]) -> Writer<'a>
+        ensures same_buffer { result.out.ghost_name ≡ out.entry.ghost_name }
+        ensures same_bytes { result.out.now ≡ out.old }
+        ensures start { result.at ≡ 0 }
+    {
+        Writer { out, at: 0 }
     }
-    at + i
+
+    // The same from a place on.
+    pub fn from(out: &'a mut [u8], at: usize) -> Writer<'a>
+        ensures same_buffer { result.out.ghost_name ≡ out.entry.ghost_name }
+        ensures same_bytes { result.out.now ≡ out.old }
+        ensures start { result.at ≡ at }
+    {
+        Writer { out, at }
+    }
+
+    // How many bytes were written.
+    pub fn size(&self) -> usize
+        ensures { result ≡ self.now.at }
+    {
+        self.at
+    }
+
+    pub fn bytes(&mut self, s: &[u8])
+        requires { Room self.old s.now }
+        ensures { Writes self.old s.now self.new }
+    {
+        let Writer { out, at } = self;
+        let end = *at + s.len();
+        out[*at..end].copy_from_slice(s);
+        *at = end;
+    }
+
+    // The digits of n.
+    #[tactic(auto, using(crate::proofs::WriterLaws::digits))]
+    pub fn decimal(&mut self, n: u32)
+        requires { Room self.old (decimal n) }
+        ensures { Writes self.old (decimal n) self.new }
+    {
+        if 10 <= n {
+            self.decimal(n / 10);
+        }
+        self.bytes(&[b'0' + (n % 10) as u8]);
+    }
 }
 
 // ---- reading numbers
 
+// The number whose text is the whole of s: 1 to 7 digits, no leading zero except 0 itself.
+#[tactic(auto, using(crate::proofs::NumberLaws::number_tested))]
+pub fn number_of(s: &[u8]) -> Option<u32>
+    ensures { result ≡ some_number (number s.now) }
+{
+    match s.len() {
+        1..=7 if leads_well(s) => digits_of(s),
+        _ => None,
+    }
+}
+
+// No leading zero, or 0 itself.
 fn leads_well(s: &[u8]) -> bool
     requires { 0 < length s.now }
     ensures { result ≡ leads_well s.now }
 {
-    if s[0] == 48 {
-        return s.len() <= 1;
-    }
-    true
+    s.len() <= 1 || s[0] != b'0'
 }
 
-// Seven digits and less: their number, or that one of the bytes is no digit.
-fn digits_of(s: &[u8]) -> Number
+// Seven bytes and less: their number, None where one of them is no digit.
+#[tactic(auto, using(crate::proofs::Reading::reading))]
+fn digits_of(s: &[u8]) -> Option<u32>
     requires { length s.now ≤ 7 }
-    ensures { result ≡ digits_after 0 s.now }
+    ensures { result ≡ some_number (digits_after 0 s.now) }
 {
     let mut n = 0;
-    let mut i = 0;
-    while i < s.len() {
-        let b = s[i];
-        if b < 48 {
-            return Number {
-                good: false,
-                value: 0,
-            };
+    for &b in s {
+        if !b.is_ascii_digit() {
+            return None;
         }
-        if 57 < b {
-            return Number {
-                good: false,
-                value: 0,
-            };
-        }
-        n = n * 10 + wide(b - 48);
-        i += 1;
+        n = n * 10 + u32::from(b - b'0');
     }
-    Number {
-        good: true,
-        value: n,
-    }
-}
-
-fn wide(b: u8) -> u32
-    ensures { result ≡ b }
-{
-    b as u32
-}
-
-// The number whose text is the whole of s: 1 to 7 digits, no leading zero except 0 itself.
-pub fn number_of(s: &[u8]) -> Number
-    ensures { result ≡ number s.now }
-{
-    if s.len() < 1 {
-        return Number {
-            good: false,
-            value: 0,
-        };
-    }
-    if 7 < s.len() {
-        return Number {
-            good: false,
-            value: 0,
-        };
-    }
-    if !leads_well(s) {
-        return Number {
-            good: false,
-            value: 0,
-        };
-    }
-    digits_of(s)
+    Some(n)
 }
 
 // ---- reading lines
@@ -150,69 +124,34 @@ pub fn number_of(s: &[u8]) -> Number
 pub fn up_to(s: &[u8], b: u8) -> usize
     ensures { result ≡ up_to b s.now }
 {
-    let mut i = 0;
-    while i < s.len() {
-        if s[i] == b {
-            return i;
-        }
-        i += 1;
-    }
-    i
+    first(s, b).unwrap_or(s.len())
 }
 
-pub fn starts_with(s: &[u8], key: &[u8]) -> bool
-    ensures { result ≡ starts key.now s.now }
+// Where the first b stands.
+fn first(s: &[u8], b: u8) -> Option<usize>
+    ensures { result ≡ position (λ x. x == b) s.now }
 {
-    let mut i = 0;
-    while i < key.len() {
-        if s.len() <= i {
-            return false;
-        }
-        if s[i] != key[i] {
-            return false;
-        }
-        i += 1;
-    }
-    true
+    s.iter().position(|&x| x == b)
 }
 
-// The size of the first line with its end, 0 where it is not ended or does not begin with the key.
-pub fn keyed_size(s: &[u8], key: &[u8]) -> usize
-    ensures { result ≡ keyed_size key.now s.now }
+// The size of the first line with its end; None where it is not ended or does not begin with the key.
+pub fn keyed_size(s: &[u8], key: &[u8]) -> Option<usize>
+    ensures { result ≡ some_size (keyed_size key.now s.now) }
 {
-    let n = up_to(s, 10);
-    if s.len() <= n {
-        return 0;
+    let n = first(s, b'\n')?;
+    if s[..n].starts_with(key) {
+        Some(n + 1)
+    } else {
+        None
     }
-    if !starts_with(&s[..n], key) {
-        return 0;
-    }
-    n + 1
 }
 
 // The first line as a key and a number.
-pub fn number_line(s: &[u8], key: &[u8]) -> NumberLine
-    ensures { result ≡ number_line key.now s.now }
+#[tactic(auto, using(crate::proofs::NumberLineLaws::lines))]
+pub fn number_line(s: &[u8], key: &[u8]) -> Option<KeyedNumber>
+    ensures { result ≡ some_line (number_line key.now s.now) }
 {
-    let n = keyed_size(s, key);
-    if n == 0 {
-        return NumberLine {
-            good: false,
-            value: 0,
-            size: 0,
-        };
-    }
-    let number = number_of(&s[key.len()..n - 1]);
-    if !number.good {
-        return NumberLine {
-            good: false,
-            value: 0,
-            size: 0,
-        };
-    }
-    NumberLine {
-        good: true,
-        value: number.value,
-        size: n,
-    }
+    let size = keyed_size(s, key)?;
+    let value = number_of(&s[key.len()..size - 1])?;
+    Some(KeyedNumber { value, size })
 }

@@ -1,24 +1,25 @@
 -- `read_record` meets its contract. A refused head is the answer; else the letters are the part that is passed on,
 -- and the string reader's promise is the call's.
 use native.Mathlib.Omega.{arith}
-use Rattle.record.proofs.OpenLaws.{head_inside, head_part, open_read, open_refused}
+use Rattle.std.proofs.lemmas.Result.{err_from_is_err_and}
+use Rattle.record.proofs.OpenLaws.{open_done, open_refused, open_stopped, part_inside}
 use Rattle.record.proofs.read_record.Goals as goal
 
-pub returns-then-head-ne0 : goal.returns-then-head-ne0
-returns-then-head-ne0 c =
-    open_refused _ _ _ _ _ c.read_head-head.ensures c.if-head-ne0.true _ c.refuse.ensures _
-    c.«open».ensures
+pub returns-in_err-gate : goal.returns-in_err-gate
+returns-in_err-gate c =
+    let p = err_from_is_err_and c.from_residual.result c.from_residual.ensures.1 in
+    rw (p.1, p.2) (open_refused _ _ _ _ _ c.in_err-gate.ensures)
 
-pub overflow_add-end : goal.overflow_add-end
-overflow_add-end c =
-    omega (arith, head_inside _ _ c.read_head-head.ensures c.if-head-ne0.false)
+pub overflow_add-start : goal.overflow_add-start
+overflow_add-start c = omega (arith, part_inside _ _ _ _ c.in_ok-gate.ensures)
 
 pub slice_bounds-read_string-end : goal.slice_bounds-read_string-end
-slice_bounds-read_string-end c =
-    omega (arith, head_inside _ _ c.read_head-head.ensures c.if-head-ne0.false)
+slice_bounds-read_string-end c = part_inside _ _ _ _ c.in_ok-gate.ensures
+
+pub returns-in_err-counts : goal.returns-in_err-counts
+returns-in_err-counts c =
+    let p = err_from_is_err_and c.from_residual-in_err-counts.result c.from_residual-in_err-counts.ensures.1 in
+    rw (p.1, p.2) (open_stopped _ _ _ _ c.in_ok-gate.ensures _ _ _ _ _ _ _ c.in_err-counts.ensures)
 
 pub returns : goal.returns
-returns c =
-    let h = c.read_head-head.ensures in
-    open_read _ _ _ _ _ h c.if-head-ne0.false _ (head_part _ _ h c.if-head-ne0.false) c.read_string-answer.ensures _
-    c.open-2.ensures
+returns c = open_done _ _ _ _ c.in_ok-gate.ensures _ _ _ _ _ _ _ c.in_ok-counts.ensures

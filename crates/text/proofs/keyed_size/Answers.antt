@@ -1,28 +1,28 @@
--- `keyed_size` meets its contract. Its two tests are those of `is_keyed`, the second on the line without its end.
-use mathlib.Core.Path.{◌∙◌, ap, sym}
-use Prim.Native.Nat.{suc}
-use native.Mathlib.Numerals.{add-one}
-use native.Mathlib.Omega.{arith}
-use lib.ListN.{take}
-use Rattle.text.proofs.KeyedLaws.{keyed_here, keyed_open, keyed_other}
-use Rattle.text.specs.Line.{starts}
+-- `keyed_size` meets its contract. A search for the line's end finds it or not, and what stands before it is compared
+-- with the key.
+use mathlib.Core.Bool.{false, true}
+use mathlib.Core.Path.{◌∙◌, subst, sym}
+use Rattle.text.proofs.KeyedLaws.{keyed_ends, keyed_open}
+use Rattle.text.proofs.LineLaws.{Found, found_up}
+use Rattle.text.specs.Line.{line_end}
 use Rattle.text.proofs.keyed_size.Goals as goal
 
-pub returns-then-s-n : goal.returns-then-s-n
-returns-then-s-n c = keyed_open _ _ (omega (arith, c.up_to-n.ensures))
-
-pub returns-then-not-starts_with : goal.returns-then-not-starts_with
-returns-then-not-starts_with c =
+pub returns-in_err-n : goal.returns-in_err-n
+returns-in_err-n c =
     let a = c.args in
-    let u = c.up_to-n in
-    keyed_other _ _ (omega (arith, u.ensures))
-    (sym (ap (λ k. starts a.key.now (take k a.s.now)) u.ensures) ∙ sym c.starts_with.ensures
-    ∙ c.if-not-starts_with.true)
+    let none = found_up line_end a.s.now c.first.result c.first.ensures in
+    c.from_residual.ensures ∙ keyed_open a.key.now a.s.now (subst (Found line_end a.s.now) c.in_err-n.was none)
 
-pub returns : goal.returns
-returns c =
+pub returns-then-starts_with : goal.returns-then-starts_with
+returns-then-starts_with c =
     let a = c.args in
-    let u = c.up_to-n in
-    add-one _ ∙ ap suc u.ensures ∙ keyed_here _ _ (omega (arith, u.ensures))
-    (sym (ap (λ k. starts a.key.now (take k a.s.now)) u.ensures) ∙ sym c.starts_with.ensures
-    ∙ c.if-not-starts_with.false)
+    let some = found_up line_end a.s.now c.first.result c.first.ensures in
+    keyed_ends a.key.now a.s.now c.in_ok-n.n (subst (Found line_end a.s.now) c.in_ok-n.was some) true
+    (sym c.if-starts_with.true ∙ c.starts_with.ensures.value)
+
+pub returns-else-starts_with : goal.returns-else-starts_with
+returns-else-starts_with c =
+    let a = c.args in
+    let some = found_up line_end a.s.now c.first.result c.first.ensures in
+    keyed_ends a.key.now a.s.now c.in_ok-n.n (subst (Found line_end a.s.now) c.in_ok-n.was some) false
+    (sym c.if-starts_with.false ∙ c.starts_with.ensures.value)
