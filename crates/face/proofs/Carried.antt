@@ -9,10 +9,10 @@ use Prim.Native.Nat.{ℕ}
 use Rattle.face.specs.Reply.{Bare, WithGate, WithLength, answer_in, opened_in, packed_in}
 use Rattle.face.specs.declared.Reply.{Reply}
 use Rattle.record.specs.Calls.{Opens, Packs}
-use Rattle.record.specs.declared.Opened.{Opened}
-use Rattle.record.specs.declared.Packed.{Packed}
+use Rattle.record.specs.Calls.{Opened}
+use Rattle.record.specs.Calls.{Packed}
 use Rattle.theory.specs.Calls.{Checks, Reads, Writes}
-use Rattle.theory.specs.declared.Answer.{Answer}
+use Rattle.theory.specs.Answer.{Answer}
 
 again : {a : Answer} {r : Reply} → Bare a r → Bare (answer_in r) r
 again b = record { answer = refl; gate = b.gate; length = b.length }

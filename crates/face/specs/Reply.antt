@@ -5,10 +5,12 @@
 --   Bare a r           r carries the answer a, and neither gate nor length
 --   WithGate a r       r carries the answer a of reading a record, and no length
 --   WithLength a r     r carries the answer a of writing a record, and no gate
+--   Refuses e r        r carries the refusal e, and nothing else
 use Rattle.std.specs.Prelude.{◌≡◌}
-use Rattle.theory.specs.declared.Answer.{Answer}
-use Rattle.record.specs.declared.Opened.{Opened}
-use Rattle.record.specs.declared.Packed.{Packed}
+use Rattle.theory.specs.Answer.{Answer, number, refused}
+use Rattle.theory.specs.declared.Refusal.{Refusal}
+use Rattle.record.specs.Calls.{Opened}
+use Rattle.record.specs.Calls.{Packed}
 use Rattle.face.specs.declared.Reply.{Reply}
 
 abbrev pub answer_in : Reply → Answer
@@ -32,3 +34,8 @@ pub record WithGate (a : Opened) (r : Reply) : Type 0 where
 pub record WithLength (a : Packed) (r : Reply) : Type 0 where
   pub answer : packed_in r ≡ a
   pub gate : r.gate ≡ 0
+
+pub record Refuses (e : Refusal) (r : Reply) : Type 0 where
+  pub answer : answer_in r ≡ refused (number e.rule) e.place
+  pub gate : r.gate ≡ 0
+  pub length : r.length ≡ 0

@@ -1,9 +1,13 @@
 -- Demand 3, from the promise of write_string alone.
 --
 --   not_compared    nothing is promised where a mesh is refused
+--   told            what comparing two strings answered tells
 --   second_answer   the answer of the second call
 --   compared        two meshes written, and their strings compared
 use mathlib.Core.Bool.{Bool, true}
+use Rattle.std.specs.Prelude.{nat_eq}
+use Rattle.std.specs.Cmp.Lexicographic.{pointwise, same_text}
+use Rattle.std.proofs.lemmas.Cmp.{nat_list_eq_equiv}
 use mathlib.Core.List.{List}
 use mathlib.Core.Path.{◌∙◌, ◌≡◌, ap, sym}
 use Prim.Native.Nat.{◌/◌, ◌<◌, ℕ}
@@ -16,11 +20,14 @@ use Rattle.theory.specs.Calls.{Writes, write_answer}
 use Rattle.theory.specs.Corner.{opposite, vertex}
 use Rattle.theory.specs.Renumber.{Renumbering, by_walk}
 use Rattle.theory.specs.Walk.{corners_of, letters_of, mesh_walk}
-use Rattle.theory.specs.declared.Answer.{Answer}
+use Rattle.theory.specs.Answer.{Answer}
 
 -- a test of two lists for being equal
 abbrev pub Tells : Bool → List ℕ → List ℕ → Type 0
 Tells r s s' = (r ≡ true → s ≡ s') × (s ≡ s' → r ≡ true)
+
+pub told : {s s' : List ℕ} {r : Bool} → r ≡ pointwise nat_eq s s' → Tells r s s'
+told {s} {s'} e = ((λ q. same_text s s' (sym q ∙ e)), λ q. e ∙ ap (pointwise nat_eq s) (sym q) ∙ nat_list_eq_equiv.refl s)
 
 module _ {vs os vs' os' walk walk' : List ℕ} {v g v' g' : ℕ} {a b : Answer} {same : Bool} where
   pub not_compared : (a.number ≡ 0 → b.number ≡ 0 → ⊥) → Compared vs os v g vs' os' v' g' a b same walk walk'

@@ -32,7 +32,7 @@ use Rattle.theory.specs.Renumber.{Renumbering, by_walk}
 use Rattle.theory.specs.Tables.{table_o, table_v}
 use Rattle.theory.specs.Walk.{corners_of, letters_of, mesh_walk}
 use Rattle.theory.specs.Word.{Closes, Sound, Word, size, spell, width, word_of}
-use Rattle.theory.specs.declared.Answer.{Answer}
+use Rattle.theory.specs.Answer.{Answer}
 
 pub demand_1_settled : {s vs os work vs' os' work' vs'' os'' work'' : List ℕ} {a b : Answer}
     → Reads s vs os work a vs' os' work' → Reads s vs os work b vs'' os'' work''

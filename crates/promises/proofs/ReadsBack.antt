@@ -29,7 +29,7 @@ use Rattle.theory.specs.Renumber.{Renumbering, by_walk}
 use Rattle.theory.specs.Tables.{table_o, table_v}
 use Rattle.theory.specs.Walk.{corners_of, letters_of, mesh_walk}
 use Rattle.theory.specs.Word.{word_of}
-use Rattle.theory.specs.declared.Answer.{Answer}
+use Rattle.theory.specs.Answer.{Answer}
 
 -- what number 1 leaves of the lengths
 pub lengths_of : (vs os : List ℕ) → shape_ok vs os ≡ true

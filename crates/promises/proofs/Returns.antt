@@ -25,7 +25,7 @@ use Rattle.theory.specs.Lists.{mem}
 use Rattle.theory.specs.Tables.{table_o, table_v}
 use Rattle.theory.specs.Walk.{corners_of, letters_of, mesh_walk}
 use Rattle.theory.specs.Word.{size, spell, word_of}
-use Rattle.theory.specs.declared.Answer.{Answer}
+use Rattle.theory.specs.Answer.{Answer}
 
 -- the part of a filled table that was made
 pub first_part : (a : Answer) (made old : List ℕ) {tab : List ℕ} (n : ℕ) → a.number ≡ 0 → tab ≡ filled a made old

@@ -7,14 +7,14 @@
 use Rattle.std.specs.Prelude.{Bool, true, List, ◌++◌, ◌≡◌, ◌/◌, ◌<◌, ◌≤◌, ℕ, drop, length, take}
 use Rattle.record.specs.Calls.{open_answer, opened, packed}
 use Rattle.record.specs.Lines.{gate_line, letters}
-use Rattle.record.specs.declared.Opened.{Opened}
-use Rattle.record.specs.declared.Packed.{Packed}
+use Rattle.record.specs.Calls.{Opened}
+use Rattle.record.specs.Calls.{Packed}
 use Rattle.theory.proofs.WordSteps.{tip_corners}
 use Rattle.theory.specs.Calls.{read_answer, write_answer}
 use Rattle.theory.specs.Corner.{opposite, vertex}
 use Rattle.theory.specs.Judge.{string_done}
 use Rattle.theory.specs.Renumber.{Renumbering, by_walk}
-use Rattle.theory.specs.declared.Answer.{Answer}
+use Rattle.theory.specs.Answer.{Answer}
 
 -- s was read with answer a and its tables were written with answer b into letters and walk
 pub record Returned (s vs os letters walk work : List ℕ) (a b : Answer) (letters' walk' : List ℕ) : Type 0 where

@@ -1,20 +1,24 @@
 // What was asked, on the code: each function calls public functions of the parts and nothing else of them, and its
 // contract is the demand, proved from their promises alone. What was asked of the definitions is in proofs/Demands.
+// Tables and buffers are lent one by one, as the calls are lent them (document 01).
 #![tactic(auto)]
 
-ghost use Rattle.std.specs.Prelude.{◌≡◌, ◌+◌, ◌≤◌, length};
+ghost use Rattle.theory.specs.Answer.{answer};
 ghost use Rattle.theory.specs.Calls.{write_answer};
+ghost use Rattle.record.specs.Calls.{opened_of, packed_of};
 ghost use Rattle.promises.specs.Demands.{Returned, ReadBack, Compared, RecordReturned};
+ghost use Rattle.std.specs.Prelude.{◌≡◌, length};
 
-use check::same;
 use conn::{read_string, write_string};
-use record::{Opened, Packed, read_head, read_record, write_record};
-use theory::Answer;
+use record::{Last, Sym, Text, read_head, read_record, write_record};
+use theory::{Counts, Refusal};
 
-#[derive(Clone, Copy)]
+// What two calls answered, one after the other; where the first is refused, the second is not made and the refusal
+// stands in both places.
+#[derive(Clone, Copy, Debug, PartialEq, Eq)]
 pub struct Both {
-    pub first: Answer,
-    pub second: Answer,
+    pub first: Result<Counts, Refusal>,
+    pub second: Result<Counts, Refusal>,
 }
 
 // Demand 2: reading a string and writing it from corner 0 returns that string.
@@ -26,21 +30,19 @@ pub fn read_write(
     walk: &mut [u32],
     work: &mut [u32],
 ) -> Both
-    ensures { Returned s.now vs.old os.old letters.old walk.old work.old result.first result.second letters.new walk.new }
+    ensures { Returned s.now vs.old os.old letters.old walk.old work.old
+        (answer result.first) (answer result.second) letters.new walk.new }
 {
-    let a = read_string(s, vs, os, work);
-    if a.number != 0 {
+    let first = read_string(s, vs, os, work);
+    let Ok(counts) = first else {
         return Both {
-            first: a,
-            second: a,
+            first,
+            second: first,
         };
-    }
+    };
     let n = 3 * s.len();
-    let b = write_string(&vs[..n], &os[..n], a.v, 0, letters, walk, work);
-    Both {
-        first: a,
-        second: b,
-    }
+    let second = write_string(&vs[..n], &os[..n], counts.v, 0, letters, walk, work);
+    Both { first, second }
 }
 
 // Demand 2: writing a mesh and reading it returns the mesh, renumbered by the walk table.
@@ -55,27 +57,26 @@ pub fn write_read(
     os2: &mut [u32],
     work: &mut [u32],
 ) -> Both
-    ensures { ReadBack vs.now os.now v gate letters.old walk.old vs2.old os2.old work.old result.first result.second walk.new vs2.new os2.new }
+    ensures { ReadBack vs.now os.now v gate letters.old walk.old vs2.old os2.old work.old
+        (answer result.first) (answer result.second) walk.new vs2.new os2.new }
 {
-    let a = write_string(vs, os, v, gate, letters, walk, work);
-    if a.number != 0 {
+    let first = write_string(vs, os, v, gate, letters, walk, work);
+    if first.is_err() {
         return Both {
-            first: a,
-            second: a,
+            first,
+            second: first,
         };
     }
     let t = vs.len() / 3;
-    let b = read_string(&letters[..t], vs2, os2, work);
-    Both {
-        first: a,
-        second: b,
-    }
+    let second = read_string(&letters[..t], vs2, os2, work);
+    Both { first, second }
 }
 
-#[derive(Clone, Copy)]
+// What two calls answered, and whether both wrote one string: a yes or no, and no where one of them is refused.
+#[derive(Clone, Copy, Debug, PartialEq, Eq)]
 pub struct Alike {
-    pub first: Answer,
-    pub second: Answer,
+    pub first: Result<Counts, Refusal>,
+    pub second: Result<Counts, Refusal>,
     pub same: bool,
 }
 
@@ -96,38 +97,38 @@ pub fn same_mesh(
     walk2: &mut [u32],
     work: &mut [u32],
 ) -> Alike
-    ensures { (result.first ≡ write_answer vs.now os.now v gate (length letters.old) (length walk.old) (length work.old)) × (result.second ≡ write_answer vs2.now os2.now v2 gate2 (length letters2.old) (length walk2.old) (length work.old)) × Compared vs.now os.now v gate vs2.now os2.now v2 gate2 result.first result.second result.same walk.new walk2.new }
+    ensures first { answer result.first
+        ≡ write_answer vs.now os.now v gate (length letters.old) (length walk.old) (length work.old) }
+    ensures second { answer result.second
+        ≡ write_answer vs2.now os2.now v2 gate2 (length letters2.old) (length walk2.old) (length work.old) }
+    ensures compared { Compared vs.now os.now v gate vs2.now os2.now v2 gate2
+        (answer result.first) (answer result.second) result.same walk.new walk2.new }
 {
-    let a = write_string(vs, os, v, gate, letters, walk, work);
-    let b = write_string(vs2, os2, v2, gate2, letters2, walk2, work);
-    if a.number != 0 {
+    let first = write_string(vs, os, v, gate, letters, walk, work);
+    let second = write_string(vs2, os2, v2, gate2, letters2, walk2, work);
+    if first.is_err() || second.is_err() {
         return Alike {
-            first: a,
-            second: b,
-            same: false,
-        };
-    }
-    if b.number != 0 {
-        return Alike {
-            first: a,
-            second: b,
+            first,
+            second,
             same: false,
         };
     }
     let t = vs.len() / 3;
     let t2 = vs2.len() / 3;
-    let equal = same(&letters[..t], &letters2[..t2]);
+    let same = &letters[..t] == &letters2[..t2];
     Alike {
-        first: a,
-        second: b,
-        same: equal,
+        first,
+        second,
+        same,
     }
 }
 
-#[derive(Clone, Copy)]
+// What reading a record answered, and writing it again; where it is refused, nothing is written and the refusal stands
+// in both places.
+#[derive(Clone, Copy, Debug, PartialEq, Eq)]
 pub struct Again {
-    pub opened: Opened,
-    pub packed: Packed,
+    pub opened: Result<Last, Refusal>,
+    pub packed: Result<Text, Refusal>,
 }
 
 // Demand 2 for records: a record that is read, and its string and gate written again, comes back byte for byte.
@@ -138,45 +139,23 @@ pub fn record_again(
     text: &mut [u8],
     work: &mut [u32],
 ) -> Again
-    ensures { RecordReturned bytes.now vs.old os.old work.old text.old result.opened result.packed text.new }
+    ensures { RecordReturned bytes.now vs.old os.old work.old text.old
+        (opened_of result.opened) (packed_of result.packed) text.new }
 {
     let head = read_head(bytes);
-    let a = read_record(bytes, vs, os, work);
-    if a.number != 0 {
-        return Again {
-            opened: a,
-            packed: unwritten(),
-        };
-    }
-    if head.number != 0 {
-        return Again {
-            opened: a,
-            packed: unwritten(),
-        };
-    }
-    let start = head.start;
-    let end = end_of(start, head.len, bytes.len());
-    let p = write_record(&bytes[start..end], a.gate, text, work);
-    Again {
-        opened: a,
-        packed: p,
-    }
-}
-
-fn unwritten() -> Packed {
-    Packed {
-        number: 0,
-        place: 0,
-        t: 0,
-        v: 0,
-        length: 0,
-    }
-}
-
-// Where len bytes from start on end, of n bytes.
-fn end_of(start: usize, len: usize, n: usize) -> usize
-    requires { start + len ≤ n }
-    ensures { result ≡ start + len }
-{
-    start + len
+    let opened = read_record(bytes, vs, os, work);
+    let Sym { start, len, .. } = match head {
+        Ok(sym) => sym,
+        Err(refusal) => {
+            return Again {
+                opened,
+                packed: Err(refusal),
+            };
+        }
+    };
+    let packed = match opened {
+        Ok(last) => write_record(&bytes[start..start + len], last.gate, text, work),
+        Err(refusal) => Err(refusal),
+    };
+    Again { opened, packed }
 }

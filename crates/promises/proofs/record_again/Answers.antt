@@ -1,24 +1,26 @@
 -- `record_again` meets its contract, from the promises of the record part alone. A head that is refused refuses the
 -- record, so past the first test the letters stand where the head says.
+use mathlib.Core.Path.{refl}
 use native.Mathlib.Omega.{arith}
-use Rattle.promises.proofs.RecordAgain.{head_letters, head_refused, record_refused, record_returned}
-use Rattle.record.proofs.OpenLaws.{head_inside}
+use Rattle.promises.proofs.RecordAgain.{head_refused, record_refused, record_returned}
+use Rattle.record.proofs.OpenLaws.{head_part, part_inside}
+use Rattle.std.specs.Prelude.{Err}
+use Rattle.theory.proofs.ResultLaws.{answer_err}
 use Rattle.promises.proofs.record_again.Goals as goal
 
-pub returns-then-head-ne0 : goal.returns-then-head-ne0
-returns-then-head-ne0 c =
-    let opened = c.read_record-a.ensures in
-    record_refused opened (head_refused opened _ c.read_head-head.ensures c.if-head-ne0.true)
+pub returns-in-Err : goal.returns-in-Err
+returns-in-Err c =
+    let opened = c.read_record-opened.ensures in
+    record_refused opened (head_refused opened c.in-Err.refusal c.in-Err.ensures)
 
-pub end_of-end-requires : goal.end_of-end-requires
-end_of-end-requires c = head_inside _ _ c.read_head-head.ensures c.if-head-ne0.false
+pub overflow_add-start : goal.overflow_add-start
+overflow_add-start c = omega (arith, part_inside _ _ _ _ c.in-Ok.ensures)
 
 pub slice_bounds-write_record-end : goal.slice_bounds-write_record-end
-slice_bounds-write_record-end c =
-    omega (arith, head_inside _ _ c.read_head-head.ensures c.if-head-ne0.false, c.end_of-end.ensures)
+slice_bounds-write_record-end c = part_inside _ _ _ _ c.in-Ok.ensures
 
-pub returns : goal.returns
-returns c =
-    let bytes = c.args.bytes.now in
-    let part = head_letters bytes _ _ c.read_head-head.ensures c.if-head-ne0.false c.end_of-end.ensures in
-    record_returned c.read_record-a.ensures part c.write_record-p.ensures
+pub returns-in-Ok-opened : goal.returns-in-Ok-opened
+returns-in-Ok-opened c = record_returned c.in-Ok-opened.ensures (head_part _ _ c.in-Ok.ensures refl) c.write_record-packed.ensures
+
+pub returns-in-Err-opened : goal.returns-in-Err-opened
+returns-in-Err-opened c = record_refused c.in-Err-opened.ensures (answer_err (Err c.in-Err-opened.refusal) refl)
