@@ -1,136 +1,62 @@
-// Every gate of a mesh (v0, o0) with every gate of a mesh (v1, o1), both of v vertices and n corners.
+// Every gate of one mesh with every gate of another: the walk tables show a renumbering exactly where the search finds
+// one, and the same one. Else there is a difference, and a line DIFFERENCE.
 //
-//     Seen     how many pairs of gates, equal strings, renumberings found, those that the walk tables show, differences
-//     pair     two gates: their strings are equal exactly where the search finds a renumbering, and it is the one that
-//              the walk tables show; else there is a difference and the line DIFFERENCE
-use crate::maps::{Gates, same_string, search, shown};
+//     Seen    how many pairs of gates, equal strings, renumberings found, those that the walk tables show, differences
+use crate::maps::{Gated, Map, Mesh, search, shown};
 use std::io;
-use trial::{alike, number, plus};
+use trial::plus;
 
-#[derive(Clone, Copy)]
+#[derive(Clone, Copy, Default)]
 pub struct Seen {
-    pub pairs: u64,
-    pub equal: u64,
-    pub found: u64,
-    pub shown: u64,
+    pairs: u64,
+    equal: u64,
+    found: u64,
+    shown: u64,
     pub differ: u64,
 }
 
-pub fn tell(rt: &impl Print, name: &[u8], s: Seen) -> io::Result<()> {
-    number(rt, name, s.pairs)?;
-    number(rt, b" equal strings=", s.equal)?;
-    number(rt, b" renumberings=", s.found)?;
-    number(rt, b" as the walk tables show=", s.shown)?;
-    number(rt, b" differences=", s.differ)?;
-    rt.write_all(b"\n")
-}
+impl Seen {
+    // One more pair of gates.
+    fn see(&mut self, walked: Option<Map>, found: Option<Map>) {
+        let same = walked == found;
+        self.pairs = plus(self.pairs, 1);
+        self.equal = plus(self.equal, u64::from(walked.is_some()));
+        self.found = plus(self.found, u64::from(found.is_some()));
+        self.shown = plus(self.shown, u64::from(found.is_some() && same));
+        self.differ = plus(self.differ, u64::from(!same));
+    }
 
-// Pairs of gates, those with equal strings and the renumbering that the walk tables show, and differences.
-fn counted(pairs: u64, alike: u64, differ: u64) -> Seen {
-    Seen {
-        pairs,
-        equal: alike,
-        found: alike,
-        shown: alike,
-        differ,
+    pub fn tell(self, rt: &impl Print) -> io::Result<()> {
+        println!(rt;
+            "pairs of gates={} equal strings={} renumberings={} as the walk tables show={} differences={}",
+            self.pairs, self.equal, self.found, self.shown, self.differ
+        )
     }
 }
 
-fn sum(a: Seen, b: Seen) -> Seen {
-    Seen {
-        pairs: plus(a.pairs, b.pairs),
-        equal: plus(a.equal, b.equal),
-        found: plus(a.found, b.found),
-        shown: plus(a.shown, b.shown),
-        differ: plus(a.differ, b.differ),
+fn pair(rt: &impl Print, a: Gated, b: Gated, seen: &mut Seen) -> io::Result<()> {
+    let walked = shown(a, b);
+    let found = search(a, b);
+    seen.see(walked, found);
+    if walked == found {
+        return Ok(());
     }
-}
-
-// Equal strings and the renumbering that the walk tables show, or neither: else a difference, which is printed.
-fn judged(rt: &impl Print, equal: u64, found: u64, alike: u64, g: u32, h: u32) -> io::Result<Seen> {
-    if equal == 0 {
-        if found == 0 {
-            return Ok(counted(1, 0, 0));
-        }
-    }
-    if equal == 1 {
-        if found == 1 {
-            if alike == 1 {
-                return Ok(counted(1, 1, 0));
-            }
-        }
-    }
-    number(rt, b"DIFFERENCE at gates ", g as u64)?;
-    number(rt, b" and ", h as u64)?;
-    number(rt, b": equal strings=", equal)?;
-    number(rt, b" renumbering=", found)?;
-    number(rt, b" as the walk tables show=", alike)?;
-    rt.write_all(b"\n")?;
-    Ok(Seen {
-        pairs: 1,
-        equal,
-        found,
-        shown: alike,
-        differ: 1,
-    })
-}
-
-fn pair(
-    rt: &impl Print,
-    v0: &[u32],
-    o0: &[u32],
-    v1: &[u32],
-    o1: &[u32],
-    p: Gates,
-) -> io::Result<Seen> {
-    let mut walked = [0u32; 30];
-    let mut map = [0u32; 30];
-    shown(v0, o0, v1, o1, p, &mut walked);
-    let found = search(v0, o0, v1, o1, p, &mut map);
-    judged(
-        rt,
-        same_string(v0, o0, v1, o1, p),
-        found,
-        alike(&walked, &map),
-        p.g,
-        p.h,
+    println!(rt;
+        "DIFFERENCE at gates {} and {}: equal strings={} renumbering={} as the walk tables show={}",
+        a.gate,
+        b.gate,
+        u8::from(walked.is_some()),
+        u8::from(found.is_some()),
+        u8::from(walked == found)
     )
 }
 
-// Gate g with every gate, then every gate with every gate.
-fn pairs_of(
-    rt: &impl Print,
-    v0: &[u32],
-    o0: &[u32],
-    v1: &[u32],
-    o1: &[u32],
-    v: u32,
-    n: u32,
-    g: u32,
-) -> io::Result<Seen> {
-    let mut seen = counted(0, 0, 0);
-    let mut h = 0;
-    while h < n {
-        seen = sum(seen, pair(rt, v0, o0, v1, o1, Gates { v, n, g, h })?);
-        h += 1;
-    }
-    Ok(seen)
-}
-
-pub fn pairs(
-    rt: &impl Print,
-    v0: &[u32],
-    o0: &[u32],
-    v1: &[u32],
-    o1: &[u32],
-    v: u32,
-    n: u32,
-) -> io::Result<Seen> {
-    let mut seen = counted(0, 0, 0);
-    let mut g = 0;
-    while g < n {
-        seen = sum(seen, pairs_of(rt, v0, o0, v1, o1, v, n, g)?);
-        g += 1;
+pub fn pairs(rt: &impl Print, a: Mesh, b: Mesh) -> io::Result<Seen> {
+    let mut seen = Seen::default();
+    for g in 0..a.corners() {
+        for h in 0..b.corners() {
+            pair(rt, a.at(g), b.at(h), &mut seen)?;
+        }
     }
     Ok(seen)
 }

@@ -1,160 +1,170 @@
 // Renumberings of a mesh onto a mesh: the one that two walk tables show, and the one that a plain search finds.
 //
-//     Gates          gate g of a mesh (v0, o0) and gate h of a mesh (v1, o1), both of v vertices and n corners
-//     write          the string and the walk table of a mesh from a gate
-//     same_string    1 where both gates write the same string
-//     shown          where each corner goes by the walk tables: triangle k of one walk to triangle k of the other
-//     search         1 where there is a renumbering: gate goes to gate, and next and opposite then settle each other
-//                    corner. No walk is used.
-//
-// A map is a table with the place of each corner, 999,999,999 where none is known.
-use trial::{at, entries, equal, nines, plus, store};
+//     Mesh       the tables of a mesh of 10 triangles at most, and how many vertices it has
+//     Gated      a mesh with its gate
+//     Written    its string and its walk table
+//     Map        where each corner goes, None where that is not known
+//     shown      triangle k of one walk goes to triangle k of the other; None where the strings differ
+//     search     gate goes to gate, and next and opposite then settle each other corner; None where one would go to
+//                two, or two to one. No walk is used.
+ghost use Rattle.std.specs.Prelude.{◌≤◌, length};
+
+use corner::Corner;
+use theory::{Counts, Refusal};
 
 #[derive(Clone, Copy)]
-pub struct Gates {
+pub struct Mesh<'a> {
+    vs: &'a [u32],
+    os: &'a [u32],
     pub v: u32,
-    pub n: u32,
-    pub g: u32,
-    pub h: u32,
+    ghost small: { length vs.now ≤ 30 },
 }
 
-pub fn write(vs: &[u32], os: &[u32], v: u32, g: u32, s: &mut [u8], walk: &mut [u32]) -> u32 {
-    let mut work = [0u32; 120];
-    let a = conn::write_string(vs, os, v, g, s, walk, &mut work);
-    a.number
+#[derive(Clone, Copy)]
+pub struct Gated<'a> {
+    pub mesh: Mesh<'a>,
+    pub gate: u32,
 }
 
-pub fn same_string(v0: &[u32], o0: &[u32], v1: &[u32], o1: &[u32], p: Gates) -> u64 {
-    let mut s0 = [0u8; 10];
-    let mut s1 = [0u8; 10];
-    let mut walk = [0u32; 10];
-    if write(v0, o0, p.v, p.g, &mut s0, &mut walk) != 0 {
-        return 0;
-    }
-    if write(v1, o1, p.v, p.h, &mut s1, &mut walk) != 0 {
-        return 0;
-    }
-    equal(&s0, &s1)
+// Of the 10 letters and corners the first t are written. Arrays beside a count, since no heap is used.
+#[derive(Clone, Copy)]
+pub struct Written {
+    letters: [u8; 10],
+    walk: [u32; 10],
+    t: usize,
 }
 
-fn next(c: u32) -> u32 {
-    if 1000000 < c {
-        return c;
-    }
-    if c % 3 == 2 {
-        return c - 2;
-    }
-    c + 1
-}
+pub type Map = [Option<usize>; 30];
 
-// The corners of the triangle of c, from c on, go to those from d on.
-fn carry(map: &mut [u32], c: u32, d: u32) {
-    store(map, c, d);
-    store(map, next(c), next(d));
-    store(map, next(next(c)), next(next(d)));
-}
-
-fn by_walks(walk0: &[u32], walk1: &[u32], n: u32, map: &mut [u32]) {
-    let mut k = 0;
-    while k < n {
-        carry(map, at(walk0, k), at(walk1, k));
-        k += 1;
-    }
-}
-
-pub fn shown(v0: &[u32], o0: &[u32], v1: &[u32], o1: &[u32], p: Gates, map: &mut [u32]) {
-    let mut s = [0u8; 10];
-    let mut walk0 = [999999999u32; 10];
-    let mut walk1 = [999999999u32; 10];
-    write(v0, o0, p.v, p.g, &mut s, &mut walk0);
-    write(v1, o1, p.v, p.h, &mut s, &mut walk1);
-    nines(map);
-    by_walks(&walk0, &walk1, p.n / 3, map);
-}
-
-// Place i of the map is x; 1 where it was another one already.
-fn settle(map: &mut [u32], i: u32, x: u32) -> u64 {
-    let old = at(map, i);
-    if old == 999999999 {
-        store(map, i, x);
-        return 0;
-    }
-    if old == x {
-        return 0;
-    }
-    1
-}
-
-// From corner c, if its place is known, to the next one and to the opposite one.
-fn spread(o0: &[u32], o1: &[u32], map: &mut [u32], c: u32) -> u64 {
-    let d = at(map, c);
-    if d == 999999999 {
-        return 0;
-    }
-    if settle(map, next(c), next(d)) != 0 {
-        return 1;
-    }
-    settle(map, at(o0, c), at(o1, d))
-}
-
-// The same from every corner: how many clashes.
-fn sweep(o0: &[u32], o1: &[u32], n: u32, map: &mut [u32]) -> u64 {
-    let mut clashes = 0;
-    let mut c = 0;
-    while c < n {
-        clashes = plus(clashes, spread(o0, o1, map, c));
-        c += 1;
-    }
-    clashes
-}
-
-// A turn settles a corner more while there is one: after n - 1 turns all are settled, and the last looks at each again.
-fn sweeps(o0: &[u32], o1: &[u32], n: u32, map: &mut [u32]) -> u64 {
-    let mut clashes = 0;
-    let mut k = 0;
-    while k < n {
-        clashes = plus(clashes, sweep(o0, o1, n, map));
-        k += 1;
-    }
-    clashes
-}
-
-// Where each vertex goes if each corner goes by the map: how many clashes.
-pub fn named(v0: &[u32], v1: &[u32], n: u32, map: &[u32], names: &mut [u32]) -> u64 {
-    nines(names);
-    let mut clashes = 0;
-    let mut c = 0;
-    while c < n {
-        clashes = plus(clashes, settle(names, at(v0, c), at(v1, at(map, c))));
-        c += 1;
-    }
-    clashes
-}
-
-// 1 where each number below n is in the map just once.
-fn onto(map: &[u32], n: u32) -> u64 {
-    let mut x = 0;
-    while x < n {
-        if entries(map, x) != 1 {
-            return 0;
+impl<'a> Mesh<'a> {
+    // The mesh that was read into the tables; None where it has more than 10 triangles.
+    pub fn new(vs: &'a [u32], os: &'a [u32], counts: Counts) -> Option<Mesh<'a>> {
+        let n = 3 * (counts.t as usize);
+        if 30 < n {
+            return None;
         }
-        x += 1;
+        Some(Mesh {
+            vs: vs.get(..n)?,
+            os: os.get(..n)?,
+            v: counts.v,
+        })
     }
-    1
+
+    pub fn corners(self) -> u32 {
+        self.vs.len() as u32
+    }
+
+    pub fn at(self, gate: u32) -> Gated<'a> {
+        Gated { mesh: self, gate }
+    }
 }
 
-pub fn search(v0: &[u32], o0: &[u32], v1: &[u32], o1: &[u32], p: Gates, map: &mut [u32]) -> u64 {
-    nines(map);
-    store(map, p.g, p.h);
-    if sweeps(o0, o1, p.n, map) != 0 {
-        return 0;
+impl Gated<'_> {
+    pub fn write(self) -> Result<Written, Refusal> {
+        let mut letters = [0; 10];
+        let mut walk = [0; 10];
+        let mut work = [0; 120];
+        let Mesh { vs, os, v } = self.mesh;
+        let counts = conn::write_string(vs, os, v, self.gate, &mut letters, &mut walk, &mut work)?;
+        Ok(Written {
+            letters,
+            walk,
+            t: counts.t as usize,
+        })
     }
-    let mut names = [999999999u32; 7];
-    if named(v0, v1, p.n, map, &mut names) != 0 {
-        return 0;
+
+    pub fn same_string(self, b: Gated) -> bool {
+        shown(self, b).is_some()
     }
-    if onto(map, p.n) == 0 {
-        return 0;
+}
+
+impl Written {
+    pub fn text(&self) -> &[u8] {
+        &self.letters[..self.t.min(10)]
     }
-    onto(&names, p.v)
+}
+
+pub fn shown(a: Gated, b: Gated) -> Option<Map> {
+    let from = a.write().ok()?;
+    let to = b.write().ok()?;
+    if from.letters != to.letters {
+        return None;
+    }
+    let mut map = [None; 30];
+    for (c, d) in from.walk.iter().zip(&to.walk).take(from.t) {
+        let mut c = Corner { at: *c as usize };
+        let mut d = Corner { at: *d as usize };
+        for _ in 0..3 {
+            if let Some(place) = map.get_mut(c.at) {
+                *place = Some(d.at);
+            }
+            c = c.next(a.mesh.os);
+            d = d.next(b.mesh.os);
+        }
+    }
+    Some(map)
+}
+
+// Place i of the map is x, where it was not known: whether it is x then.
+fn settle(map: &mut [Option<usize>], i: usize, x: usize) -> bool {
+    match map.get_mut(i) {
+        Some(place) => *place.get_or_insert(x) == x,
+        None => true,
+    }
+}
+
+// From corner c, if its place is known, to the next one and to the opposite one: whether both may be there.
+fn spread(a: Mesh, b: Mesh, map: &mut [Option<usize>], c: usize) -> bool {
+    let Some(&Some(d)) = map.get(c) else {
+        return true;
+    };
+    let c = Corner { at: c };
+    let d = Corner { at: d };
+    settle(map, c.next(a.os).at, d.next(b.os).at)
+        && settle(map, c.opposite(a.os).at, d.opposite(b.os).at)
+}
+
+// The same from each corner, n times: whether all may be where they are. A turn settles a corner more while there is
+// one; after n - 1 turns all are settled, and the last looks at each again.
+fn sweeps(a: Mesh, b: Mesh, map: &mut [Option<usize>]) -> bool {
+    let n = a.os.len();
+    for _ in 0..n {
+        for c in 0..n {
+            if !spread(a, b, map, c) {
+                return false;
+            }
+        }
+    }
+    true
+}
+
+// Where each vertex goes if each corner goes by the map; None where one would go to two.
+pub fn named(a: Mesh, b: Mesh, map: &Map) -> Option<[Option<usize>; 7]> {
+    let mut names = [None; 7];
+    for (u, place) in a.vs.iter().zip(map) {
+        if let Some(d) = place {
+            let to = *b.vs.get(*d)?;
+            if !settle(&mut names, *u as usize, to as usize) {
+                return None;
+            }
+        }
+    }
+    Some(names)
+}
+
+// Each number below n is in the map just once.
+fn onto(map: &[Option<usize>], n: usize) -> bool {
+    (0..n).all(|x| map.iter().filter(|place| **place == Some(x)).count() == 1)
+}
+
+pub fn search(a: Gated, b: Gated) -> Option<Map> {
+    let mut map = [None; 30];
+    if let Some(place) = map.get_mut(a.gate as usize) {
+        *place = Some(b.gate as usize);
+    }
+    if !sweeps(a.mesh, b.mesh, &mut map) {
+        return None;
+    }
+    let names = named(a.mesh, b.mesh, &map)?;
+    (onto(&map, a.mesh.os.len()) && onto(&names, a.mesh.v as usize)).then_some(map)
 }

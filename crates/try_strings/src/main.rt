@@ -4,32 +4,27 @@
 // nines V and O kept, and how many nines and zeros the work space has.
 #![tactic(auto)]
 
+ghost use Rattle.std.specs.Prelude.{◌≤◌};
+
 use std::io;
-use trial::{entries, nines, plus, rise, same, show, space, spell};
+use trial::{NONE, entries, filled, nines, plus, rise, show, space, spell};
 
-// How many of the first total strings as long as s are accepted.
-fn accepted(total: u32, s: &mut [u8], vs: &mut [u32], os: &mut [u32], work: &mut [u32]) -> u64 {
-    let mut found = 0;
-    let mut n = 0;
-    while n < total {
-        spell(n, s);
-        let a = conn::read_string(s, vs, os, work);
-        found = plus(found, same(a.number, 0));
-        n += 1;
-    }
-    found
-}
-
-fn count(rt: &impl Print, total: u32, s: &mut [u8]) -> io::Result<()> {
+// All strings of T letters: how many of them are accepted.
+fn count<const T: usize>(rt: &impl Print, total: u32) -> io::Result<()>
+    requires { T ≤ 8 }
+{
+    let mut s = [0u8; T];
     let mut vs = [0u32; 24];
     let mut os = [0u32; 24];
     let mut work = [0u32; 96];
-    let n = accepted(total, s, &mut vs, &mut os, &mut work);
-    rt.write_all(b"t=")?;
-    rt.print(s.len() as u64)?;
-    rt.write_all(b" accepted=")?;
-    rt.print(n)?;
-    rt.write_all(b"\n")
+    let mut accepted = 0;
+    for n in 0..total {
+        spell(n, &mut s);
+        if conn::read_string(&s, &mut vs, &mut os, &mut work).is_ok() {
+            accepted = plus(accepted, 1);
+        }
+    }
+    println!(rt; "t={T} accepted={accepted}")
 }
 
 // Reads s, and looks at the tables and the work space.
@@ -40,116 +35,57 @@ fn read_into(
     os: &mut [u32],
     work: &mut [u32],
 ) -> io::Result<()> {
-    let a = conn::read_string(s, vs, os, work);
-    show(rt, a)?;
-    rt.write_all(b" kept=")?;
-    rt.print(entries(vs, 999999999))?;
-    rt.write_all(b",")?;
-    rt.print(entries(os, 999999999))?;
+    show(rt, conn::read_string(s, vs, os, work))?;
+    print!(rt; " kept={},{}", entries(vs, NONE), entries(os, NONE))?;
     space(rt, work)
 }
 
-fn read(rt: &impl Print, s: &[u8]) -> io::Result<()> {
-    let mut vs = [999999999u32; 20];
-    let mut os = [999999999u32; 20];
-    let mut work = [999999999u32; 80];
-    rt.write_all(s)?;
-    read_into(rt, s, &mut vs, &mut os, &mut work)
-}
-
-// The same with room for it, but one number short in V, in O, in the work space; then with room.
-fn read_short(rt: &impl Print, s: &[u8]) -> io::Result<()> {
-    let mut short = [999999999u32; 11];
-    let mut vs = [999999999u32; 12];
-    let mut os = [999999999u32; 12];
-    let mut short_work = [999999999u32; 47];
-    let mut work = [999999999u32; 48];
-    rt.write_all(s)?;
-    read_into(rt, s, &mut short, &mut os, &mut work)?;
-    rt.write_all(s)?;
-    read_into(rt, s, &mut vs, &mut short, &mut work)?;
-    rt.write_all(s)?;
-    read_into(rt, s, &mut vs, &mut os, &mut short_work)?;
-    rt.write_all(s)?;
-    read_into(rt, s, &mut vs, &mut os, &mut work)
-}
-
-// n Cs, then Rs, then E.
-fn long(
-    rt: &impl Print,
-    s: &mut [u8],
-    n: usize,
-    vs: &mut [u32],
-    os: &mut [u32],
-    work: &mut [u32],
-) -> io::Result<()> {
-    rise(s, n);
-    nines(vs);
-    nines(os);
-    nines(work);
-    rt.write_all(b"length ")?;
-    rt.print(s.len() as u64)?;
-    read_into(rt, s, vs, os, work)
-}
-
-fn longest_text() -> [u8; 65536] {
-    [0u8; 65536]
-}
-
-fn longer_text() -> [u8; 65538] {
-    [0u8; 65538]
-}
-
-fn long_table() -> [u32; 196620] {
-    [0u32; 196620]
-}
-
-fn long_space() -> [u32; 786440] {
-    [0u32; 786440]
-}
-
-// Every string of a few letters.
-fn all(rt: &impl Print) -> io::Result<()> {
-    let mut two = [0u8; 2];
-    let mut four = [0u8; 4];
-    let mut six = [0u8; 6];
-    let mut eight = [0u8; 8];
-    count(rt, 25, &mut two)?;
-    count(rt, 625, &mut four)?;
-    count(rt, 15625, &mut six)?;
-    count(rt, 390625, &mut eight)
+// The same with n entries for V, m for O and k for the work space.
+fn read(rt: &impl Print, s: &str, n: usize, m: usize, k: usize) -> io::Result<()>
+    requires { (n ≤ 20) × (m ≤ 20) × (k ≤ 80) }
+{
+    let mut vs = [NONE; 20];
+    let mut os = [NONE; 20];
+    let mut work = [NONE; 80];
+    rt.print(s)?;
+    read_into(rt, s.as_bytes(), &mut vs[..n], &mut os[..m], &mut work[..k])
 }
 
 fn each(rt: &impl Print) -> io::Result<()> {
-    read(rt, b"")?;
-    read(rt, b"CEE")?;
-    read(rt, b"CCxE")?;
-    read(rt, b"CCSE")?;
-    read(rt, b"EC")?;
-    read(rt, b"CERE")?;
-    read(rt, b"CCEE")?;
-    read(rt, b"CCCE")?;
-    read(rt, b"LE")?;
-    read(rt, b"CCLE")?;
-    read(rt, b"CE")?;
-    read_short(rt, b"CCRE")
+    for s in [
+        "", "CEE", "CCxE", "CCSE", "EC", "CERE", "CCEE", "CCCE", "LE", "CCLE", "CE",
+    ] {
+        read(rt, s, 20, 20, 80)?;
+    }
+    // room for it, but one number short in V, in O, in the work space; then room
+    read(rt, "CCRE", 11, 12, 48)?;
+    read(rt, "CCRE", 12, 11, 48)?;
+    read(rt, "CCRE", 12, 12, 47)?;
+    read(rt, "CCRE", 12, 12, 48)
 }
 
-// Strings of the most letters and of two more. The work space is lent: made here too, with what makes it, it would want
-// the whole stack.
-fn longest(rt: &impl Print, work: &mut [u32]) -> io::Result<()> {
-    let mut most = longest_text();
-    let mut longer = longer_text();
-    let mut vs = long_table();
-    let mut os = long_table();
-    long(rt, &mut most, 32768, &mut vs, &mut os, work)?;
-    long(rt, &mut most, 32769, &mut vs, &mut os, work)?;
-    long(rt, &mut longer, 32769, &mut vs, &mut os, work)
+// T letters: n Cs, then Rs, then E. The work space is lent: made here too, with what makes it, it would want the whole
+// stack.
+fn long<const T: usize>(rt: &impl Print, n: usize, work: &mut [u32]) -> io::Result<()>
+    requires { T ≤ 65538 }
+{
+    let mut s = [0; T];
+    let mut vs = filled::<u32, 196620>(NONE);
+    let mut os = filled::<u32, 196620>(NONE);
+    rise(&mut s, n);
+    nines(work);
+    print!(rt; "length {T}")?;
+    read_into(rt, &s, &mut vs, &mut os, work)
 }
 
 fn main(rt: HostRuntime) -> io::Result<()> {
-    all(&rt)?;
+    count::<2>(&rt, 25)?;
+    count::<4>(&rt, 625)?;
+    count::<6>(&rt, 15625)?;
+    count::<8>(&rt, 390625)?;
     each(&rt)?;
-    let mut work = long_space();
-    longest(&rt, &mut work)
+    let mut work = filled::<u32, 786440>(0);
+    long::<65536>(&rt, 32768, &mut work)?;
+    long::<65536>(&rt, 32769, &mut work)?;
+    long::<65538>(&rt, 32769, &mut work)
 }

@@ -17,10 +17,12 @@ fn main(rt: HostRuntime) -> io::Result<()> {
     let mut work = [0u32; 9600];
     let mut out = [0u8; 66446];
     let size = print::unpack(&bytes[..n], &mut vs, &mut os, &mut work, &mut out);
-    write_first(&rt, &out, size)
+    rt.write_all(&out[..size])
 }
 
-// Reads until the buffer is full or the input ends, and answers how many bytes.
+// Reads until the buffer is full or the input ends, and answers how many bytes. The place that is read to is kept
+// here: std's `read_exact` does not tell how far an input that ends early went, and its `copy` tries an interrupted
+// read again, where this program ends with that error.
 fn read_full(from: &mut impl Read, bytes: &mut [u8]) -> io::Result<usize>
     ensures { IfOk result (λ n. n ≤ length bytes.new) }
 {
@@ -33,11 +35,4 @@ fn read_full(from: &mut impl Read, bytes: &mut [u8]) -> io::Result<usize>
         n += got;
     }
     Ok(n)
-}
-
-fn write_first(rt: &impl Print, out: &[u8], size: usize) -> io::Result<()> {
-    if size <= out.len() {
-        rt.write_all(&out[..size])?;
-    }
-    Ok(())
 }

@@ -1,9 +1,0 @@
--- `row` prints n entries; the measure is how many are left.
-use Prim.Native.Nat.{◌-◌, ◌≤◌}
-use Rattle.try_gates.proofs.row.Given as goal
-
-abbrev pub invariant-loop-k : goal.invariant-loop-k
-invariant-loop-k g l = l.k ≤ l.n
-
-abbrev pub decreases-loop-k : goal.decreases-loop-k
-decreases-loop-k g l = l.n - l.k
