@@ -14,7 +14,7 @@ pub overflow_add-start : goal.overflow_add-start
 overflow_add-start c = omega (arith, part_inside _ _ _ _ c.in_ok-gate.ensures)
 
 pub slice_bounds-read_string-end : goal.slice_bounds-read_string-end
-slice_bounds-read_string-end c = part_inside _ _ _ _ c.in_ok-gate.ensures
+slice_bounds-read_string-end c = omega (arith, part_inside _ _ _ _ c.in_ok-gate.ensures)
 
 pub returns-in_err-counts : goal.returns-in_err-counts
 returns-in_err-counts c =
