@@ -170,7 +170,8 @@ fn judge_whole(s: &Glued, v: u32, g: u32, work: &mut [u32]) -> Result<Counts, Re
     Ok(Counts { t: t as u32, v })
 }
 
-// Numbers 8 to 15 of tables of a right shape, or done.
+// Numbers 8 to 15 of tables of a right shape, or done. Only refused tables come here from sweep.
+#[cold]
 #[tactic(auto, using(crate::proofs::Judging::judging))]
 pub fn judge_mesh(tables: &Tables, v: u32, g: u32, work: &mut [u32]) -> Result<Counts, Refusal>
     requires { 12 * (length tables.now.vs.now / 3) ≤ length work.old }

@@ -15,10 +15,11 @@ use mesh::judge_mesh;
 use theory::{Counts, Refusal};
 use walk::trace;
 
-// Rules 10 and 11 at corner c: its opposite faces back, and the corner before that one has the vertex a.
-fn faces_at(tables: &Tables, c: usize, a: u32) -> bool
-    requires { c < length tables.now.os.now }
-    ensures { Says (FacesAt tables.now.vs.now tables.now.os.now c a) result }
+// Rules 10 and 11 at corner c: its opposite faces back, and the corner before that one has the vertex a. The tables come
+// by value, so that the loop keeps their places in registers.
+fn faces_at(tables: Tables, c: usize, a: u32) -> bool
+    requires { c < length tables.os.now }
+    ensures { Says (FacesAt tables.entry.vs.now tables.entry.os.now c a) result }
 {
     let os = tables.os;
     let d = os[c] as usize;
@@ -32,9 +33,9 @@ fn faces_at(tables: &Tables, c: usize, a: u32) -> bool
 }
 
 // Rules 9 to 12 at triangle k.
-fn sound_at(tables: &Tables, v: u32, k: usize) -> bool
-    requires { k < length tables.now.vs.now / 3 }
-    ensures { Says (SoundAt tables.now.vs.now tables.now.os.now v k) result }
+fn sound_at(tables: Tables, v: u32, k: usize) -> bool
+    requires { k < length tables.vs.now / 3 }
+    ensures { Says (SoundAt tables.entry.vs.now tables.entry.os.now v k) result }
 {
     let a = tables.vs[3 * k];
     let b = tables.vs[3 * k + 1];
@@ -52,8 +53,8 @@ fn sound_at(tables: &Tables, v: u32, k: usize) -> bool
 }
 
 // Rules 9 to 12 at every triangle.
-fn sound(tables: &Tables, v: u32) -> bool
-    ensures { Says (Sound tables.now.vs.now tables.now.os.now v (length tables.now.vs.now / 3)) result }
+fn sound(tables: Tables, v: u32) -> bool
+    ensures { Says (Sound tables.entry.vs.now tables.entry.os.now v (length tables.entry.vs.now / 3)) result }
 {
     (0..tables.count()).all(|k| sound_at(tables, v, k))
 }
@@ -67,9 +68,9 @@ fn all_on(work: &[u32], n: usize) -> bool
 }
 
 // Whether tables are an accepted mesh; then its walk is kept in work.
-fn walks(tables: &Tables, v: u32, g: u32, work: &mut [u32]) -> bool
-    requires { 12 * (length tables.now.vs.now / 3) ≤ length work.old }
-    ensures { Walks result tables.now.vs.now tables.now.os.now v g work.new }
+fn walks(tables: Tables, v: u32, g: u32, work: &mut [u32]) -> bool
+    requires { 12 * (length tables.vs.now / 3) ≤ length work.old }
+    ensures { Walks result tables.entry.vs.now tables.entry.os.now v g work.new }
 {
     let t = tables.count();
     if tables.vs.len() <= g as usize {
@@ -90,7 +91,7 @@ pub fn judge(tables: &Tables, v: u32, g: u32, work: &mut [u32]) -> Result<Counts
     requires { 12 * (length tables.now.vs.now / 3) ≤ length work.old }
     ensures { Judges tables.now.vs.now tables.now.os.now v g (answer result) work.new }
 {
-    if walks(tables, v, g, work) {
+    if walks(*tables, v, g, work) {
         return Ok(Counts {
             t: tables.count() as u32,
             v,

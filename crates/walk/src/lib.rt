@@ -86,6 +86,7 @@ fn keep(work: &mut [u32], i: usize, c: usize, a: Letter)
 }
 
 // The walk from the gate corner g, its steps kept in work from 3t on.
+#[inline(never)]
 pub fn trace(vs: &[u32], os: &[u32], v: u32, g: u32, work: &mut [u32])
     requires { Traceable vs.now os.now v g work.old }
     ensures { Traced vs.now os.now v g work.new }

@@ -12,11 +12,11 @@ returns-then-os-d-2 c = faces_off _ _ _ _ _ c.requires refl c.if-os-d.false _ re
 
 pub offset_bounds-tables-previous_of : goal.offset_bounds-tables-previous_of
 offset_bounds-tables-previous_of c =
-    let q = before_in _ _ c.args.tables.now.shape _ _ c.if-os-d.false c.previous_of.ensures in
+    let q = before_in _ _ c.args.tables.shape _ _ c.if-os-d.false c.previous_of.ensures in
     search rules
 
 pub bounds-tables-previous_of : goal.bounds-tables-previous_of
-bounds-tables-previous_of c = before_in _ _ c.args.tables.now.shape _ _ c.if-os-d.false c.previous_of.ensures
+bounds-tables-previous_of c = before_in _ _ c.args.tables.shape _ _ c.if-os-d.false c.previous_of.ensures
 
 pub returns : goal.returns
 returns c =

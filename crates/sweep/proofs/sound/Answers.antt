@@ -9,8 +9,8 @@ use Rattle.sweep.proofs.sound.Goals as goal
 
 pub returns : goal.returns
 returns c =
-    let vs = c.args.tables.now.vs.now in
-    let os = c.args.tables.now.os.now in
+    let vs = c.args.tables.vs.now in
+    let os = c.args.tables.os.now in
     all_sound vs os _ _ _
     (cases_from_all _ _ _ (λ k. SoundAt vs os c.args.v k) (λ k. SoundAt vs os c.args.v k → ⊥) c.all.ensures.ran
     (YieldsList-from_range 0 _ _ refl (search rules)) (λ x q k. search (rules, yes)) (λ x q k. search (rules, no)))

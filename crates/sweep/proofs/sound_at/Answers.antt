@@ -17,13 +17,13 @@ returns-then-v-a c =
     grind (arith, common_steps))
 
 pub faces_at-requires : goal.faces_at-requires
-faces_at-requires c = omega (arith, shape_of _ _ c.args.tables.now.shape)
+faces_at-requires c = omega (arith, shape_of _ _ c.args.tables.shape)
 
 pub faces_at-requires-2 : goal.faces_at-requires-2
-faces_at-requires-2 c = omega (arith, shape_of _ _ c.args.tables.now.shape)
+faces_at-requires-2 c = omega (arith, shape_of _ _ c.args.tables.shape)
 
 pub faces_at-requires-3 : goal.faces_at-requires-3
-faces_at-requires-3 c = omega (arith, shape_of _ _ c.args.tables.now.shape)
+faces_at-requires-3 c = omega (arith, shape_of _ _ c.args.tables.shape)
 
 pub returns-then-not-faces_at : goal.returns-then-not-faces_at
 returns-then-not-faces_at c = fails (λ s. said_no c.faces_at.ensures c.if-not-faces_at.true s.tip)

@@ -17,16 +17,16 @@ returns-then-not-sound c = refused_walk (λ a. said_no c.sound.ensures c.if-not-
 
 pub trace-requires : goal.trace-requires
 trace-requires c =
-    swept_walkable (swept c.args.tables.now.shape c.count-t.ensures c.if-tables-g.false c.if-t-v.false c.sound.ensures
+    swept_walkable (swept c.args.tables.shape c.count-t.ensures c.if-tables-g.false c.if-t-v.false c.sound.ensures
     c.if-not-sound.false)
     c.requires
 
 pub all_on-requires : goal.all_on-requires
 all_on-requires c =
-    omega (arith, shape_of _ _ c.args.tables.now.shape, c.if-t-v.false, c.count-t.ensures, c.requires, c.trace.auto.work)
+    omega (arith, shape_of _ _ c.args.tables.shape, c.if-t-v.false, c.count-t.ensures, c.requires, c.trace.auto.work)
 
 pub returns : goal.returns
 returns c =
-    kept_walk _ c.count-t.ensures (swept c.args.tables.now.shape c.count-t.ensures c.if-tables-g.false c.if-t-v.false
+    kept_walk _ c.count-t.ensures (swept c.args.tables.shape c.count-t.ensures c.if-tables-g.false c.if-t-v.false
     c.sound.ensures c.if-not-sound.false)
     c.trace.ensures c.all_on.ensures
