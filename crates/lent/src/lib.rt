@@ -50,6 +50,17 @@ pub fn clear_front(work: &mut [u32], n: usize)
     work[..n].fill(0);
 }
 
+// One slice is carried over into another of its length. A loop, since `copy_from_slice` would make the archive for C
+// ask for memmove from outside.
+pub fn copy<T: Copy>(from: &[T], to: &mut [T])
+    requires { length to.old ≡ length from.now }
+    ensures { to.new ≡ from.now }
+{
+    for (i, &x) in from.iter().enumerate() {
+        to[i] = x;
+    }
+}
+
 // The stack that is work from p on: one number more.
 pub fn push(work: &mut [u32], p: usize, x: u32) -> usize
     requires { (0 < p) × (p ≤ length work.old) }

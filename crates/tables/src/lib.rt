@@ -17,7 +17,7 @@ ghost use Rattle.tables.specs.Fold.{fold_c, fold_e, fold_in, fold_l, fold_r, fol
 mod labels;
 
 use labels::fill;
-use lent::{at, put};
+use lent::{at, copy, put};
 use theory::Letter;
 
 // A word: the ends of its open sides, and where the stack of the words behind it stands. That they stand within the
@@ -203,6 +203,6 @@ pub fn build(s: &[u8], work: &[u32], vs: &mut [u32], os: &mut [u32])
     ensures { Built s.now vs.new os.new }
 {
     let (joined, notes) = work.split_at(3 * s.len());
-    os.copy_from_slice(joined);
+    copy(joined, os);
     fill(s, notes, os, vs);
 }

@@ -9,4 +9,5 @@ pub mod LineLaws
 pub mod KeyedLaws
 pub mod NumberLineLaws
 pub mod PutLaws
+pub mod Writing
 pub mod WriterLaws

@@ -2,13 +2,11 @@
 --
 --   writes_put      it kept its buffer and put a text
 --   writes_nothing writes_append   nothing; one text behind another
---   digits          what the writer of a number needs
 use mathlib.Core.List.{List, [], ◌++◌}
 use mathlib.Core.Path.{◌∙◌, ◌≡◌, ap, refl, sym}
 use Prim.Native.Nat.{◌+◌, ℕ}
 use native.Mathlib.Omega.{arith}
 use lib.ListN.{length, length-append}
-use Rattle.text.proofs.DecimalLaws.{decimal_big, decimal_more, decimal_one, decimal_small}
 use Rattle.text.proofs.PutLaws.{length_put, put_append, put_none}
 use Rattle.text.specs.Put.{Room, Writes, put}
 use Rattle.text.specs.declared.Writer.{Writer}
@@ -45,5 +43,3 @@ writes_append {u} {v} {w} {a} {b} f s = record {
         ∙ put_append u.out.now u.at a b (omega arith);
   };
 }
-
-pub ruleset digits = (writes_append, decimal_small, decimal_big, decimal_more, decimal_one)

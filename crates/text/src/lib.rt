@@ -6,6 +6,8 @@ ghost use Rattle.text.specs.Decimal.{decimal, number, digits_after, leads_well, 
 ghost use Rattle.text.specs.Line.{up_to, keyed_size, number_line, some_size, some_line};
 ghost use Rattle.text.specs.Put.{Room, Writes};
 
+use lent::copy;
+
 // The number of a line `key=number`, and how many bytes the line has with its end.
 #[derive(Clone, Copy, Debug, PartialEq, Eq)]
 pub struct KeyedNumber {
@@ -64,20 +66,31 @@ impl<'a> Writer<'a> {
     {
         let Writer { out, at } = self;
         let end = *at + s.len();
-        out[*at..end].copy_from_slice(s);
+        copy(s, &mut out[*at..end]);
         *at = end;
     }
 
     // The digits of n.
-    #[tactic(auto, using(crate::proofs::WriterLaws::digits))]
     pub fn decimal(&mut self, n: u32)
         requires { Room self.old (decimal n) }
         ensures { Writes self.old (decimal n) self.new }
     {
-        if 10 <= n {
-            self.decimal(n / 10);
-        }
-        self.bytes(&[b'0' + (n % 10) as u8]);
+        let Writer { out, at } = self;
+        let many = decimal_length(n);
+        digits(&mut out[*at..*at + many], n);
+        *at += many;
+    }
+}
+
+// The digits of n into as many bytes, the last digit first.
+fn digits(part: &mut [u8], n: u32)
+    requires { length part.old ≡ length (decimal n) }
+    ensures { part.new ≡ decimal n }
+{
+    let mut m = n;
+    for i in (0..part.len()).rev() {
+        part[i] = b'0' + (m % 10) as u8;
+        m /= 10;
     }
 }
 

@@ -7,4 +7,4 @@ use Rattle.text.proofs.Writer.bytes.Goals as goal
 pub returns : goal.returns
 returns c =
     let w = c.args.self.now in
-    writes_put c.requires refl refl (put_copy w.out.now w.at c.args.s.now _ c.copy_from_slice.ensures.after)
+    writes_put c.requires refl refl (put_copy w.out.now w.at c.args.s.now _ c.copy.ensures)

@@ -1,0 +1,6 @@
+-- `copy` meets its contract: as many elements as the loop counts are carried over.
+use Rattle.std.proofs.Common.{◌≡◌, length, take}
+use Rattle.lent.proofs.copy.Given as goal
+
+abbrev pub invariant-loop-i : goal.invariant-loop-i
+invariant-loop-i g l = (length l.to ≡ length l.from) × (take l.i l.to ≡ take l.i l.from)
