@@ -76,7 +76,8 @@ fn walks(tables: Tables, v: u32, g: u32, work: &mut [u32]) -> bool
     if tables.vs.len() <= g as usize {
         return false;
     }
-    if t + 4 != 2 * (v as usize) {
+    let twice = 2 * (v as usize);
+    if t + 4 != twice {
         return false;
     }
     if !sound(tables, v) {
