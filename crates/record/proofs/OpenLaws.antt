@@ -2,8 +2,9 @@
 --
 --   head_part head_inside   where the head is accepted its letters are the part that is passed on, which ends within
 --                           the text
---   open_refused            the call's promise after a refused head
---   open_read               the call's promise after the string reader's
+--   refused_opens           the call's promise after a head that is refused
+--   open_refused            the same, of the refusal that the code hands on
+--   open_done open_stopped  the call's promise after the string reader's
 use mathlib.Core.Bool.{Bool, ◌&&◌, cond, true}
 use mathlib.Core.List.{List, ◌∷◌}
 use mathlib.Core.Logic.{◌≢◌}
@@ -121,24 +122,27 @@ unfolding opened
 opened_err e gate = rw (ne_eqb (number e.rule) 0 (answer_err (Err e) refl))
 
 module _ (text vs os work : List ℕ) where
-  pub open_refused : (e : Refusal) → head_in (Err e) ≡ head_of text
-      → Opens text vs os work (opened_of (Err e)) vs os work
-  unfolding head_answer open_answer text_answer
-  open_refused e h =
-      let a = answer (Err e) in
-      let k : a.number ≢ 0 = answer_err (Err e) refl in
-      let m : (head_of text).number ≢ 0 = λ z. k (ap (λ (x : Head). x.number) h ∙ z) in
+  pub refused_opens : (h : Head) → h ≡ head_of text → h.number ≢ 0 → (a : Answer) → a ≡ refused h.number h.place
+      → (r : Opened) → r ≡ opened a 0 → Opens text vs os work r vs os work
+  unfolding head_answer open_answer text_answer opened
+  refused_opens h e n a ea r er =
+      let m : (head_of text).number ≢ 0 = λ z. n (ap (λ (x : Head). x.number) e ∙ z) in
       let b : a ≡ head_answer text =
-      ap (λ (x : Head). refused x.number x.place) (h ∙ head_isnt text m) ∙ sym (plain_refusal (head_rungs text)) in
+      ea ∙ ap (λ (x : Head). refused x.number x.place) (e ∙ head_isnt text m) ∙ sym (plain_refusal (head_rungs text)) in
+      let k : a.number ≢ 0 = λ z. head_not text m (ap (λ (x : Answer). x.number) (sym b) ∙ z) in
       let o : open_answer text (length vs) (length os) (length work) ≡ a =
       refused_append (head_rungs text) _ (done 0 0) (string_done (letters text)) refl (head_not text m) ∙ sym b in
       record {
-        answer = rw o (opened_err e _);
-        vertices = sym (filled_refused a _ vs k);
-        neighbours = sym (filled_refused a _ os k);
-        space = sym (early_kept a work (subst (λ (x : Answer). Early x.number) (sym b)
-            (head_early text (head_not text m))));
+        answer = er ∙ rw (o, ne_eqb a.number 0 k);
+        vertices = rw er (sym (filled_refused a _ vs k));
+        neighbours = rw er (sym (filled_refused a _ os k));
+        space = rw er (sym (early_kept a work (subst (λ (x : Answer). Early x.number) (sym b)
+            (head_early text (head_not text m)))));
       }
+
+  pub open_refused : (e : Refusal) → head_in (Err e) ≡ head_of text
+      → Opens text vs os work (opened_of (Err e)) vs os work
+  open_refused e h = refused_opens (head_in (Err e)) h (answer_err (Err e) refl) _ refl _ (opened_err e 0)
 
   module _ (h : Head) (e : h ≡ head_of text) (z : h.number ≡ 0) {vs' os' work' : List ℕ} where
     read : (a : Answer) → Reads (take (h.start + h.len - h.start) (drop h.start text)) vs os work a vs' os' work'
