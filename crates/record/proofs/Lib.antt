@@ -1,4 +1,5 @@
--- The code's argument (rungs, the head, the text in pieces, the two calls), then the two theorems of a record.
+-- The code's argument (results, rungs, the head, the text in pieces, the two calls), then the two theorems of a record.
+pub mod ResultLaws
 pub mod RungLaws
 pub mod Pieces
 pub mod HeadLaws
