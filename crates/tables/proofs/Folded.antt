@@ -11,14 +11,12 @@ use lib.Seq.{get_or-take, length-take-le}
 use borrow.Author.Tests.{eq-eqb, eqb-true}
 use Rattle.tables.proofs.Corners.{each_same, inner, inner_in, inner_not_open, join_left, join_off, join_right, last_in, length_join, open_in, some_open}
 use Rattle.tables.proofs.Enough.{Full}
-use Rattle.tables.proofs.Folding.{Folding, first_same, folding_stop, going}
+use Rattle.tables.proofs.Folding.{Folding, first_same, folding_stop}
 use Rattle.tables.specs.declared.Ends.{Ends}
-use Rattle.theory.specs.Letter.{is_letter, letter}
-use Rattle.theory.specs.declared.Letter.{Letter}
 use Rattle.tables.proofs.Held.{Held, Standing, recorded_same}
 use Rattle.tables.proofs.Neighbours.{made_table}
 use Rattle.tables.proofs.Stopping.{spells, spelt_words}
-use Rattle.tables.specs.Fold.{Foldable, Folded, Joined, fold_in, stops}
+use Rattle.tables.specs.Fold.{Foldable, Folded, Joined, fold_in, halts}
 use Rattle.theory.proofs.Opens.{mates, opens}
 use Rattle.std.proofs.lemmas.Bool.{and_from}
 use Rattle.theory.proofs.TestLaws.{and_left, and_right, not_both}
@@ -88,15 +86,11 @@ stopped {s} work' n =
       made = λ z. absurd (not_both false z refl);
     }
 
--- a byte that is no letter, and a letter that cannot stand there
+-- a byte that is no letter, or a letter that cannot stand there
 module _ {s work₀ work : List ℕ} {ends : Ends} {i : ℕ} (can : Foldable s work₀) (inv : Folding s work₀ work ends i)
     (more : 0 < i) where
-  pub foreign : is_letter (get_or s (i - 1) 0) ≡ false → Folded s false work
-  foreign e = stopped work (λ c. not_both (is_letter (get_or s (i - 1) 0)) (going can inv more c).known e)
-
-  pub halted : {a : Letter} → (is_letter (get_or s (i - 1) 0) ≡ true) × (a ≡ letter (get_or s (i - 1) 0))
-      → true ≡ stops a ends (length work - ends.top) → Folded s false work
-  halted r e = stopped work (folding_stop can inv more r e)
+  pub halted : halts (get_or s (i - 1) 0) ends (length work - ends.top) ≡ true → Folded s false work
+  halted e = stopped work (folding_stop can inv more e)
 
 -- the words at the end of the loop
 module _ {s work₀ work : List ℕ} {ends : Ends} {i : ℕ} (can : Foldable s work₀) (inv : Folding s work₀ work ends i)

@@ -20,7 +20,7 @@ use Rattle.tables.proofs.Pushes.{standing_e}
 use Rattle.tables.proofs.Splices.{standing_s}
 use Rattle.tables.proofs.Stopping.{Going, goes, never_stops}
 use Rattle.tables.specs.declared.Ends.{Ends}
-use Rattle.tables.specs.Fold.{Fold, Foldable, fold_c, fold_e, fold_in, fold_l, fold_r, fold_s, fold_step, spliced, stops}
+use Rattle.tables.specs.Fold.{Fold, Foldable, fold_c, fold_e, fold_in, fold_l, fold_r, fold_s, fold_step, halts, spliced}
 use Rattle.theory.proofs.GreatestLaws.{Above, down_turn}
 use Rattle.theory.proofs.LetterLaws.{letter_new}
 use Rattle.theory.proofs.Pinches.{sound_free}
@@ -166,10 +166,10 @@ module _ {s work₀ work : List ℕ} {ends : Ends} {i : ℕ} (can : Foldable s w
   abbrev b : ℕ
   b = get_or s (i - 1) 0
 
-  pub folding_turn : {a : Letter} {work' : List ℕ} {ends' : Ends} → (is_letter b ≡ true) × (a ≡ letter b)
-      → length work' ≡ length work → false ≡ stops a ends (length work - ends.top)
+  pub folding_turn : {a : Letter} {work' : List ℕ} {ends' : Ends}
+      → (halts b ends (length work - ends.top) ≡ false) × (a ≡ letter b) → length work' ≡ length work
       → fold_in work' ends' ≡ fold_step a (length s) (i - 1) (fold_in work ends) → Folding s work₀ work' ends' (i - 1)
-  folding_turn {a} {work'} {ends'} (known, is) same on₀ e₀ =
+  folding_turn {a} {work'} {ends'} (on, is) same e₀ =
       let t = length s in
       let k = i - 1 in
       let z = fold_in work ends in
@@ -180,10 +180,9 @@ module _ {s work₀ work : List ℕ} {ends : Ends} {i : ℕ} (can : Foldable s w
       let at = inv.at in
       let wi = inv.within in
       let e : fold_in work' ends' ≡ fold_step (letter b) t k z = rw (← is) e₀ in
-      let on : stops (letter b) ends (length work - ends.top) ≡ false = rw (← is) (sym on₀) in
       let lower : k + 1 ≡ i = omega arith in
       let sk : suc k ≡ i = omega arith in
-      let go = goes ends (length work - ends.top) ws inv.deep b known on in
+      let go = goes ends (length work - ends.top) ws inv.deep b on in
       let enough = go.enough in
       let before-is : words (drop k s) ≡ before (letter b) ws =
       words_cons s k (omega arith) ∙ ap (λ (j : ℕ). before (letter b) (words (drop j s))) sk in
@@ -216,7 +215,5 @@ module _ {s work₀ work : List ℕ} {ends : Ends} {i : ℕ} (can : Foldable s w
   pub going : Closes s → Going b ends.first ends.last (words (drop i s))
   going c = closing s (fold_in work ends) i more inv.at c inv.stands
 
-  pub folding_stop : {a : Letter} → (is_letter b ≡ true) × (a ≡ letter b)
-      → true ≡ stops a ends (length work - ends.top) → Closes s → ⊥
-  folding_stop {a} (known, is) e c =
-      never_stops ends (length work - ends.top) (words (drop i s)) inv.deep b (going c) (rw (← is) (sym e))
+  pub folding_stop : halts b ends (length work - ends.top) ≡ true → Closes s → ⊥
+  folding_stop e c = never_stops ends (length work - ends.top) (words (drop i s)) inv.deep b (going c) e

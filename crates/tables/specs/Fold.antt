@@ -10,10 +10,12 @@
 --   Room k               room for a letter at triangle k: it and the ends lie in the work space, and a word fits on
 --                        the stack
 --   stops                the letter cannot stand there: words are missing, or a C stands before a word of width 2
+--   halts                the same of a byte, which may be no letter
 --   Foldable Folded      what the pass asks of a string, and what it answers and leaves
 --   Recorded t work k w  the record of each S of w, its first triangle k: the last open side of its right branch
-use Rattle.std.specs.Prelude.{Bool, ◌||◌, false, true, List, ◌≡◌, ◌*◌, ◌+◌, ◌-◌, ◌<◌, ◌≤◌, ℕ, eqb, ltb, get_or, length, set, take}
+use Rattle.std.specs.Prelude.{Bool, ◌||◌, false, not, true, List, ◌≡◌, ◌*◌, ◌+◌, ◌-◌, ◌<◌, ◌≤◌, ℕ, eqb, ltb, get_or, length, set, take}
 use Rattle.theory.proofs.Opens.{opens}
+use Rattle.theory.specs.Letter.{is_letter, letter}
 use Rattle.theory.specs.Lists.{back}
 use Rattle.theory.specs.Tables.{join_at, table_o}
 use Rattle.theory.specs.Word.{Closes, Word, size, w_c, w_e, w_l, w_r, w_s, word_of}
@@ -112,6 +114,10 @@ stops L ends deep = ltb deep 3
 stops E ends deep = false
 stops R ends deep = ltb deep 3
 stops S ends deep = ltb deep 6
+
+-- what keeps the byte b from standing there as a letter
+unfoldable pub halts : ℕ → Ends → ℕ → Bool
+halts b ends deep = not (is_letter b) || stops (letter b) ends deep
 
 pub record Foldable (s work : List ℕ) : Type 0 where
   pub some : 0 < length s

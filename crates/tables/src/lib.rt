@@ -8,10 +8,11 @@
 // it whole.
 #![tactic(auto)]
 
-ghost use Rattle.std.specs.Prelude.{◌≡◌, ◌&&◌, ℕ, ◌+◌, ◌-◌, ◌*◌, ◌<◌, ◌≤◌, eqb, length, set};
+ghost use Rattle.std.specs.Prelude.{◌≡◌, ◌&&◌, MatchOption, false, true, ℕ, ◌+◌, ◌-◌, ◌*◌, ◌<◌, ◌≤◌, eqb, length, set};
+ghost use Rattle.theory.specs.Letter.{letter};
 ghost use Rattle.theory.specs.Tables.{join_at};
 ghost use Rattle.tables.specs.Built.{Buildable, Built};
-ghost use Rattle.tables.specs.Fold.{Foldable, Folded, Room, pushed, stops};
+ghost use Rattle.tables.specs.Fold.{Foldable, Folded, Room, halts, pushed, stops};
 ghost use Rattle.tables.specs.Fold.{fold_c, fold_e, fold_in, fold_l, fold_r, fold_s, fold_step};
 
 mod labels;
@@ -164,6 +165,18 @@ fn stops(a: Letter, ends: Ends, deep: usize) -> bool
     }
 }
 
+// The letter of the byte b, where it may stand before the words behind it, of which deep counts three for each.
+#[tactic(auto, using(crate::proofs::Stopping::halting))]
+fn letter_before(b: u8, ends: Ends, deep: usize) -> Option<Letter>
+    ensures { MatchOption result (halts b ends deep ≡ true) (λ a. (halts b ends deep ≡ false) × (a ≡ letter b)) }
+{
+    let a = Letter::try_from(b).ok()?;
+    if stops(a, ends, deep) {
+        return None;
+    }
+    Some(a)
+}
+
 // What is left closes a sphere: one word, of which deep counts three, with one open side.
 fn closes(ends: Ends, deep: usize) -> bool
     ensures { result ≡ (eqb deep 3 && eqb ends.first ends.last) }
@@ -182,12 +195,9 @@ pub fn fold(s: &[u8], work: &mut [u32]) -> bool
         top: work.len(),
     };
     for k in (0..s.len()).rev() {
-        let Ok(a) = Letter::try_from(s[k]) else {
+        let Some(a) = letter_before(s[k], ends, work.len() - ends.top) else {
             return false;
         };
-        if stops(a, ends, work.len() - ends.top) {
-            return false;
-        }
         ends = step(a, s.len(), k as u32, ends, work);
     }
     if !closes(ends, work.len() - ends.top) {
