@@ -55,7 +55,11 @@ pub fn nines(tab: &mut [u32])
 pub fn entries(tab: &[u32], x: u32) -> u64
     ensures { result ≡ count_by (λ y. y == x) tab.now }
 {
-    tab.iter().filter(|y| **y == x).count() as u64
+    let mut n = 0;
+    for &y in tab {
+        n += u64::from(y == x);
+    }
+    n
 }
 
 pub fn equal<T: PartialEq>(a: &[T], b: &[T]) -> bool
