@@ -143,7 +143,8 @@ fn unpacked(bytes: &[u8], out: &mut [u8]) -> usize {
     print::unpack(bytes, &mut vs, &mut os, &mut work, out)
 }
 
-// The same behind a label.
+// The same behind a label. Its array is as long as that of `first_line`: in one frame they would want the stack twice.
+#[inline(never)]
 fn unpack(rt: &impl Print, label: &[u8], bytes: &[u8]) -> io::Result<()> {
     let mut out = [0u8; 66446];
     let n = unpacked(bytes, &mut out);

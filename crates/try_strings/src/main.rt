@@ -65,13 +65,13 @@ fn each(rt: &impl Print) -> io::Result<()> {
 }
 
 // T letters: n Cs, then Rs, then E. The work space is lent: made here too, with what makes it, it would want the whole
-// stack.
+// stack. V and O are made in place: what `filled` gives is copied, and each copy wants the stack again.
 fn long<const T: usize>(rt: &impl Print, n: usize, work: &mut [u32]) -> io::Result<()>
     requires { T ≤ 65538 }
 {
     let mut s = [0; T];
-    let mut vs = filled::<u32, 196620>(NONE);
-    let mut os = filled::<u32, 196620>(NONE);
+    let mut vs = [NONE; 196620];
+    let mut os = [NONE; 196620];
     rise(&mut s, n);
     nines(work);
     print!(rt; "length {T}")?;
