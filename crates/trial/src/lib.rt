@@ -1,4 +1,4 @@
-// What the programs that run the calls share. None of them needs `equal`, `at` and `store` now.
+// What the programs that run the calls share.
 //
 //     NONE           an entry of a table before a call: 999,999,999 is neither a vertex nor a corner
 //     spell          the n-th string over the five letters
@@ -7,6 +7,7 @@
 //     entries        how many entries of a table are x
 //     equal          two strings, or two tables, are equal
 //     at store       an entry of a table, NONE beyond it; a change of one, none beyond it
+//     entry change   the same of a table of any element, and beyond it the one that is given
 //     plus           a sum of counts
 //     number show space  prints a number behind its name; an answer; what is in a work space
 #![tactic(auto)]
@@ -78,6 +79,21 @@ pub fn store(tab: &mut [u32], i: u32, x: u32)
     ensures { tab.new ≡ set tab.old i x }
 {
     lent::put(tab, i as usize, x);
+}
+
+pub fn entry<T: Copy>(tab: &[T], i: u32, none: T) -> T
+    ensures { result ≡ get_or tab.now i none }
+{
+    tab.get(i as usize).copied().unwrap_or(none)
+}
+
+pub fn change<T: Copy>(tab: &mut [T], i: u32, x: T)
+    ensures { tab.new ≡ set tab.old i x }
+{
+    let k = i as usize;
+    if k < tab.len() {
+        tab[k] = x;
+    }
 }
 
 // The counts of the programs are far below what a u64 holds.

@@ -2,9 +2,9 @@
 // one, and the same one. Else there is a difference, and a line DIFFERENCE.
 //
 //     Seen    how many pairs of gates, equal strings, renumberings found, those that the walk tables show, differences
-use crate::maps::{Gated, Map, Mesh, search, shown};
+use crate::maps::{Gated, Mesh, map_of, search, shown};
 use std::io;
-use trial::plus;
+use trial::{equal, plus};
 
 #[derive(Clone, Copy, Default)]
 pub struct Seen {
@@ -16,14 +16,16 @@ pub struct Seen {
 }
 
 impl Seen {
-    // One more pair of gates.
-    fn see(&mut self, walked: Option<Map>, found: Option<Map>) {
-        let same = walked == found;
+    // One more pair of gates: whether it is a difference. Its strings are equal, the search finds a renumbering, and
+    // the two maps are the same, or not.
+    fn see(&mut self, strings: bool, found: bool, same: bool) -> bool {
+        let differ = strings != found || (found && !same);
         self.pairs = plus(self.pairs, 1);
-        self.equal = plus(self.equal, u64::from(walked.is_some()));
-        self.found = plus(self.found, u64::from(found.is_some()));
-        self.shown = plus(self.shown, u64::from(found.is_some() && same));
-        self.differ = plus(self.differ, u64::from(!same));
+        self.equal = plus(self.equal, u64::from(strings));
+        self.found = plus(self.found, u64::from(found));
+        self.shown = plus(self.shown, u64::from((strings || found) && same));
+        self.differ = plus(self.differ, u64::from(differ));
+        differ
     }
 
     pub fn tell(self, rt: &impl Print) -> io::Result<()> {
@@ -37,17 +39,17 @@ impl Seen {
 fn pair(rt: &impl Print, a: Gated, b: Gated, seen: &mut Seen) -> io::Result<()> {
     let walked = shown(a, b);
     let found = search(a, b);
-    seen.see(walked, found);
-    if walked == found {
+    let same = equal(map_of(&walked), map_of(&found));
+    if !seen.see(walked.is_ok(), found.is_ok(), same) {
         return Ok(());
     }
     println!(rt;
         "DIFFERENCE at gates {} and {}: equal strings={} renumbering={} as the walk tables show={}",
         a.gate,
         b.gate,
-        u8::from(walked.is_some()),
-        u8::from(found.is_some()),
-        u8::from(walked == found)
+        u8::from(walked.is_ok()),
+        u8::from(found.is_ok()),
+        u8::from(same)
     )
 }
 

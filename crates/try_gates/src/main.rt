@@ -11,16 +11,17 @@ mod compare;
 mod maps;
 
 use compare::pairs;
-use maps::{Gated, Map, Mesh, named, search, shown};
+use maps::{Gated, Map, Mesh, map_of, named, numbers, search, shown};
 use std::io;
 use theory::Counts;
-use trial::{NONE, plus, show};
+use trial::{at, equal, plus, show};
 
 // The first n places of a map.
-fn row(rt: &impl Print, name: &str, map: &[Option<usize>], n: u32) -> io::Result<()> {
+fn row(rt: &impl Print, name: &str, map: &[Option<u32>], n: u32) -> io::Result<()> {
+    let places = numbers(map);
     rt.print(name)?;
-    for place in map.iter().take(n as usize) {
-        print!(rt; " {}", place.unwrap_or(NONE as usize))?;
+    for k in 0..n {
+        print!(rt; " {}", at(&places, k))?;
     }
     Ok(())
 }
@@ -33,11 +34,10 @@ fn member(rt: &impl Print, a: Gated, b: Gated, walked: Map) -> io::Result<()> {
         row(rt, ", vertices", &names, a.mesh.v)?;
     }
     let found = search(a, b);
-    let equal = found == Some(walked);
     println!(rt;
         ", found={} equal={}",
-        u8::from(found.is_some()),
-        u8::from(equal)
+        u8::from(found.is_ok()),
+        u8::from(equal(&walked, map_of(&found)))
     )
 }
 
@@ -54,7 +54,7 @@ fn group(rt: &impl Print, a: Gated) -> io::Result<()> {
     println!(rt)?;
     for h in (a.gate..a.mesh.corners()).skip(1) {
         let b = a.mesh.at(h);
-        if let Some(walked) = shown(a, b) {
+        if let Ok(walked) = shown(a, b) {
             member(rt, a, b, walked)?;
         }
     }

@@ -4,13 +4,15 @@
 //     Gated      a mesh with its gate
 //     Written    its string and its walk table
 //     Map        where each corner goes, None where that is not known
-//     shown      triangle k of one walk goes to triangle k of the other; None where the strings differ
-//     search     gate goes to gate, and next and opposite then settle each other corner; None where one would go to
-//                two, or two to one. No walk is used.
+//     shown      triangle k of one walk goes to triangle k of the other; an Err where the strings differ
+//     search     gate goes to gate, and next and opposite then settle each other corner; an Err where one would go to
+//                two, or two to one. No walk is used, nor a step of the library.
+//     map_of     the map itself, an Err's as far as it goes
+//     numbers    a map as a table, NONE where it knows none
 ghost use Rattle.std.specs.Prelude.{◌≤◌, length};
 
-use corner::Corner;
 use theory::{Counts, Refusal};
+use trial::{NONE, at, change, entries, entry, equal, store};
 
 #[derive(Clone, Copy)]
 pub struct Mesh<'a> {
@@ -34,7 +36,7 @@ pub struct Written {
     t: usize,
 }
 
-pub type Map = [Option<usize>; 30];
+pub type Map = [Option<u32>; 30];
 
 impl<'a> Mesh<'a> {
     // The mesh that was read into the tables; None where it has more than 10 triangles.
@@ -74,7 +76,7 @@ impl Gated<'_> {
     }
 
     pub fn same_string(self, b: Gated) -> bool {
-        shown(self, b).is_some()
+        shown(self, b).is_ok()
     }
 }
 
@@ -84,50 +86,81 @@ impl Written {
     }
 }
 
-pub fn shown(a: Gated, b: Gated) -> Option<Map> {
-    let from = a.write().ok()?;
-    let to = b.write().ok()?;
-    if from.letters != to.letters {
-        return None;
+// The step of the search, its own.
+fn next(c: u32) -> u32 {
+    if 1000000 < c {
+        return c;
     }
-    let mut map = [None; 30];
-    for (c, d) in from.walk.iter().zip(&to.walk).take(from.t) {
-        let mut c = Corner { at: *c as usize };
-        let mut d = Corner { at: *d as usize };
-        for _ in 0..3 {
-            if let Some(place) = map.get_mut(c.at) {
-                *place = Some(d.at);
-            }
-            c = c.next(a.mesh.os);
-            d = d.next(b.mesh.os);
+    if c % 3 == 2 { c - 2 } else { c + 1 }
+}
+
+// A number of a table as a place of a map.
+fn known(x: u32) -> Option<u32> {
+    (x != NONE).then_some(x)
+}
+
+pub fn numbers(map: &[Option<u32>]) -> [u32; 30] {
+    let mut tab = [NONE; 30];
+    for i in 0..30 {
+        if let Some(x) = entry(map, i, None) {
+            store(&mut tab, i, x);
         }
     }
-    Some(map)
+    tab
+}
+
+pub fn map_of(map: &Result<Map, Map>) -> &Map {
+    match map {
+        Ok(all) => all,
+        Err(part) => part,
+    }
+}
+
+// The corners of the triangle of c, from c on, go to those from d on.
+fn carry(map: &mut Map, c: u32, d: u32) {
+    change(map, c, known(d));
+    change(map, next(c), known(next(d)));
+    change(map, next(next(c)), known(next(next(d))));
+}
+
+pub fn shown(a: Gated, b: Gated) -> Result<Map, Map> {
+    let mut map = [None; 30];
+    let (Ok(from), Ok(to)) = (a.write(), b.write()) else {
+        return Err(map);
+    };
+    for k in 0..a.mesh.corners() / 3 {
+        carry(&mut map, at(&from.walk, k), at(&to.walk, k));
+    }
+    if equal(&from.letters, &to.letters) {
+        Ok(map)
+    } else {
+        Err(map)
+    }
 }
 
 // Place i of the map is x, where it was not known: whether it is x then.
-fn settle(map: &mut [Option<usize>], i: usize, x: usize) -> bool {
-    match map.get_mut(i) {
-        Some(place) => *place.get_or_insert(x) == x,
-        None => true,
+fn settle(map: &mut [Option<u32>], i: u32, x: u32) -> bool {
+    match entry(map, i, None) {
+        Some(place) => place == x,
+        None => {
+            change(map, i, known(x));
+            true
+        }
     }
 }
 
 // From corner c, if its place is known, to the next one and to the opposite one: whether both may be there.
-fn spread(a: Mesh, b: Mesh, map: &mut [Option<usize>], c: usize) -> bool {
-    let Some(&Some(d)) = map.get(c) else {
+fn spread(a: Mesh, b: Mesh, map: &mut [Option<u32>], c: u32) -> bool {
+    let Some(d) = entry(map, c, None) else {
         return true;
     };
-    let c = Corner { at: c };
-    let d = Corner { at: d };
-    settle(map, c.next(a.os).at, d.next(b.os).at)
-        && settle(map, c.opposite(a.os).at, d.opposite(b.os).at)
+    settle(map, next(c), next(d)) && settle(map, at(a.os, c), at(b.os, d))
 }
 
 // The same from each corner, n times: whether all may be where they are. A turn settles a corner more while there is
 // one; after n - 1 turns all are settled, and the last looks at each again.
-fn sweeps(a: Mesh, b: Mesh, map: &mut [Option<usize>]) -> bool {
-    let n = a.os.len();
+fn sweeps(a: Mesh, b: Mesh, map: &mut [Option<u32>]) -> bool {
+    let n = a.corners();
     for _ in 0..n {
         for c in 0..n {
             if !spread(a, b, map, c) {
@@ -138,13 +171,13 @@ fn sweeps(a: Mesh, b: Mesh, map: &mut [Option<usize>]) -> bool {
     true
 }
 
-// Where each vertex goes if each corner goes by the map; None where one would go to two.
-pub fn named(a: Mesh, b: Mesh, map: &Map) -> Option<[Option<usize>; 7]> {
+// Where each vertex goes if each corner goes by the map; None where one would go to two, or to none.
+pub fn named(a: Mesh, b: Mesh, map: &Map) -> Option<[Option<u32>; 7]> {
     let mut names = [None; 7];
-    for (u, place) in a.vs.iter().zip(map) {
-        if let Some(d) = place {
-            let to = *b.vs.get(*d)?;
-            if !settle(&mut names, *u as usize, to as usize) {
+    for c in 0..a.corners() {
+        if let Some(d) = entry(map, c, None) {
+            let to = at(b.vs, d);
+            if to == NONE || !settle(&mut names, at(a.vs, c), to) {
                 return None;
             }
         }
@@ -153,18 +186,23 @@ pub fn named(a: Mesh, b: Mesh, map: &Map) -> Option<[Option<usize>; 7]> {
 }
 
 // Each number below n is in the map just once.
-fn onto(map: &[Option<usize>], n: usize) -> bool {
-    (0..n).all(|x| map.iter().filter(|place| **place == Some(x)).count() == 1)
+fn onto(map: &[Option<u32>], n: u32) -> bool {
+    let places = numbers(map);
+    (0..n).all(|x| entries(&places, x) == 1)
 }
 
-pub fn search(a: Gated, b: Gated) -> Option<Map> {
+pub fn search(a: Gated, b: Gated) -> Result<Map, Map> {
     let mut map = [None; 30];
-    if let Some(place) = map.get_mut(a.gate as usize) {
-        *place = Some(b.gate as usize);
-    }
+    change(&mut map, a.gate, Some(b.gate));
     if !sweeps(a.mesh, b.mesh, &mut map) {
-        return None;
+        return Err(map);
     }
-    let names = named(a.mesh, b.mesh, &map)?;
-    (onto(&map, a.mesh.os.len()) && onto(&names, a.mesh.v as usize)).then_some(map)
+    let Some(names) = named(a.mesh, b.mesh, &map) else {
+        return Err(map);
+    };
+    if onto(&map, a.mesh.corners()) && onto(&names, a.mesh.v) {
+        Ok(map)
+    } else {
+        Err(map)
+    }
 }

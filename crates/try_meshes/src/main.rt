@@ -10,7 +10,7 @@ mod meshes;
 
 use meshes::{M1, M12, Mesh, TORUS};
 use std::io;
-use trial::{NONE, filled, plus, rise, show, space, spell};
+use trial::{NONE, equal, filled, plus, rise, show, space, spell};
 
 fn check_in(rt: &impl Print, name: &str, mesh: Mesh, work: &mut [u32]) -> io::Result<()> {
     rt.print(name)?;
@@ -119,7 +119,7 @@ fn all<const T: usize, const N: usize>(rt: &impl Print, total: u32) -> io::Resul
                     gate,
                 };
                 let written = mesh.write(&mut out, &mut walk, &mut work);
-                seen.see(gate, written.is_ok(), s == out);
+                seen.see(gate, written.is_ok(), equal(&s, &out));
             }
         }
     }
@@ -135,7 +135,7 @@ fn write_long(rt: &impl Print, s: &[u8], mesh: Mesh, work: &mut [u32]) -> io::Re
     let mut walk = filled::<u32, 65536>(0);
     rt.print("written")?;
     show(rt, mesh.write(&mut out, &mut walk, work))?;
-    print!(rt; " equal={}", u8::from(s == out.as_slice()))?;
+    print!(rt; " equal={}", u8::from(equal(s, &out)))?;
     space(rt, work)
 }
 
