@@ -3,8 +3,9 @@
 //
 //     group      the gates with the string of one; for each but that one the renumbering from it by the walk tables,
 //                whether the search finds one, and whether it is equal
-//     one two    a mesh with itself, groups and every pair of gates; two meshes, every pair of gates. Each answers how
-//                many pairs differ; a string that is refused, or has more than 10 letters, counts as one that differs.
+//     one two    a mesh with itself, groups and every pair of gates; two meshes of 10 triangles, every pair of gates.
+//                Each answers how many pairs differ. It answers 1 where a string has more than 10 letters, `two` also
+//                where one is refused or has fewer; to `one` a refused string is a mesh of no corners: it answers 0.
 #![tactic(auto)]
 
 mod compare;

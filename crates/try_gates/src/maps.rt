@@ -64,7 +64,7 @@ impl<'a> Mesh<'a> {
 impl Gated<'_> {
     pub fn write(self) -> Result<Written, Refusal> {
         let mut letters = [0; 10];
-        let mut walk = [0; 10];
+        let mut walk = [NONE; 10];
         let mut work = [0; 120];
         let Mesh { vs, os, v } = self.mesh;
         let counts = conn::write_string(vs, os, v, self.gate, &mut letters, &mut walk, &mut work)?;

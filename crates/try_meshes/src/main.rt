@@ -111,7 +111,11 @@ fn all<const T: usize, const N: usize>(rt: &impl Print, total: u32) -> io::Resul
     for n in 0..total {
         spell(n, &mut s);
         if let Ok(counts) = conn::read_string(&s, &mut vs, &mut os, &mut work) {
-            for gate in 0..N as u32 {
+            // never: T is 8 at most
+            if 8 < counts.t {
+                continue;
+            }
+            for gate in 0..3 * counts.t {
                 let mesh = Mesh {
                     vs: &vs,
                     os: &os,
